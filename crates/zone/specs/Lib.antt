@@ -1,0 +1,5 @@
+pub mod Intervals
+pub mod Names
+pub mod Refusals
+pub mod Rows
+pub mod Laws

@@ -1,0 +1,7 @@
+// Laws of names.
+ghost use Rattle.zone.specs.Laws.{Names-stand};
+
+/// A held name is valid exactly when some bytes, at least one, are name bytes and the rest is zero; making a name of a text and spelling it gives the text.
+pub fn names_stand()
+    ensures { λ _. ⌜ Names-stand ⌝ }
+{}
