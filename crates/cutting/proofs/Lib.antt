@@ -1,0 +1,5 @@
+pub mod Chains
+pub mod Clipping
+pub mod Seen
+pub mod Room
+pub mod Fits

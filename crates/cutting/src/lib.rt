@@ -1,0 +1,6 @@
+// The row in force, local times, and cuts.
+pub mod cuts;
+pub mod filling;
+pub mod laws;
+pub mod locals;
+pub mod look;
