@@ -1,0 +1,5 @@
+-- Lemmas on dates and seconds.
+pub mod Closed
+pub mod Exists
+pub mod Sum
+pub mod Unique
