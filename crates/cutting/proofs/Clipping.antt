@@ -4,11 +4,14 @@ use mathlib.Core.Bool.{Bool, true, false, _&&_, cond}
 use mathlib.Core.List.{List, [], _∷_}
 use lib.IntN.{ℤ, pos, negsuc, _+ℤ_}
 use lib.Signed.{ltZ, leZ, _<ℤ_, _≤ℤ_}
+use Prim.Native.Nat.{_≤_}
 use native.Mathlib.Omega.{arith}
+use lib.ListN.{length}
 use Rattle.std.proofs.shelf.Signed.{ints, by-ltZ}
 use Rattle.std.specs.shelf.Lists.{All, folded, kept-by}
 use Rattle.std.proofs.shelf.Tests.{cond-both, and-parts, and-from}
 use Rattle.std.proofs.shelf.Elements.{all-kept-by}
+use Rattle.std.proofs.shelf.Sums.{length-kept-by, countBy-le-length}
 use Rattle.zone.specs.declared.rows.Interval.{Interval}
 use Rattle.zone.specs.declared.rows.Row.{Row}
 use Rattle.zone.specs.Intervals.{within, has-instant}
@@ -181,6 +184,14 @@ instant-parts i t h =
 by-clip : (s t : ℤ) (r : Row) → by-row (clip s r) t ≡ by-row r t
 by-clip s t r = cond-both (ltZ s (r .onset)) r (opening s r) (λ x. by-row x t ≡ by-row r t) (λ _. refl) (λ _. refl)
 
+-- the row in force at the start stands for one that began before
+pub cut-short : (rows : List Row) (a b s e : ℤ) → Run rows a b → a ≤ℤ s → length (cut rows s e) ≤ length rows
+cut-short [] a b s e c h = absurd c
+cut-short (r ∷ xs) a b s e c h =
+    let m : r .onset ≤ℤ s = omega (arith, ints) in
+    let d = ap length (head-dropped s e r xs m) in
+    omega (arith, d, length-kept-by (inside s e) xs, countBy-le-length (inside s e) xs)
+
 pub cuts-agree : Cuts-agree
 cuts-agree of rows to c w =
     let r = run-of of rows c in
@@ -188,6 +199,7 @@ cuts-agree of rows to c w =
     record {
       covers = covers-of to (the.cut rows to) (cut-run rows (of .start) (of .end) (to .start) (to .end) r (p .0) (p .1)) (cut-offsets rows (of .start) (of .end) (to .start) (to .end) r (offsets-from rows (c .small)));
       same = λ t h. let q = instant-parts to t h in ap (λ r. by-row r t) (in-force-cut rows (of .start) (of .end) (to .start) (to .end) t r (p .0) (q .0) (q .1)) ∙ by-clip (to .start) t (in-force rows t);
+      short = cut-short rows (of .start) (of .end) (to .start) (to .end) r (p .0);
       again = λ inner h. let q = within-parts inner to h in cut-cut rows (of .start) (of .end) (to .start) (to .end) (inner .start) (inner .end) r (p .0) (q .0) (q .1) (q .2);
     }
 

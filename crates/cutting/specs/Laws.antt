@@ -2,7 +2,7 @@
 use mathlib.Core.Path.{_≡_}
 use mathlib.Core.Bool.{true}
 use mathlib.Core.List.{List}
-use Prim.Native.Nat.{ℕ, _<_}
+use Prim.Native.Nat.{ℕ, _<_, _≤_}
 use lib.IntN.{ℤ}
 use lib.ListN.{length}
 use lib.Signed.{_<ℤ_, _≤ℤ_}
@@ -27,8 +27,9 @@ Some-in-force = (i : Interval) (rows : List Row) (t : ℤ) → Covers i rows →
 pub record Cut-laws (rows : List Row) (to : Interval) : Type 0 where
   pub covers : Covers to (cut rows to)
   pub same : (t : ℤ) → has-instant to t ≡ true → local (cut rows to) t ≡ local rows t
+  pub short : length (cut rows to) ≤ length rows
   pub again : (inner : Interval) → within inner to ≡ true → cut (cut rows to) inner ≡ cut rows inner
 
--- a cut covers its interval, has the same local times there, and cut again it is the cut
+-- a cut covers its interval, has the same local times there, has no more rows, and cut again it is the cut
 abbrev pub Cuts-agree : Type 0
 Cuts-agree = (of : Interval) (rows : List Row) (to : Interval) → Covers of rows → within to of ≡ true → Cut-laws rows to

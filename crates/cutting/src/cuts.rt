@@ -8,10 +8,9 @@ ghost use Rattle.zone.specs.Intervals.{era, within};
 ghost use Rattle.zone.specs.Rows.{Covers};
 ghost use Rattle.cutting.specs.Cutting.{cut};
 ghost use Rattle.cutting.specs.Outcomes.{cut-number, cut-outcome, cut-result, Cut-told, Leaves};
-use super::filling::count_inside;
+use super::filling::is_cut_small;
 use super::filling::put_cut;
 use super::locals::CutRefusal;
-use zone::deciding::WINDOW_ROWS;
 use zone::deciding::is_table;
 use zone::rows::Interval;
 use zone::rows::Row;
@@ -33,7 +32,7 @@ fn cut_covering(
     if !to.is_within(of) {
         return Err(CutRefusal::OutsideSpan);
     }
-    if count_inside(rows, to) >= WINDOW_ROWS {
+    if !is_cut_small(rows, to) {
         return Err(CutRefusal::TooManyRows);
     }
     put_cut(rows, to, &mut place.rows);

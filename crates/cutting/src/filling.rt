@@ -1,11 +1,14 @@
 // The rows of a cut, put into memory that is there.
 ghost use mathlib.Core.Path.{_≡_};
 ghost use Prim.Native.Nat.{_+_, _<_, _≤_};
+ghost use lib.Dec.{leb};
 ghost use lib.ListN.{length};
 ghost use Rattle.std.specs.Of.Vec.{vec-len, vec-items, vec-cap};
 ghost use Rattle.std.specs.shelf.Lists.{countBy};
+ghost use Rattle.zone.specs.Rows.{window-rows};
 ghost use Rattle.cutting.specs.Cutting.{begins-inside, cut, opening};
 use super::look::place_in_force;
+use zone::deciding::WINDOW_ROWS;
 use zone::rows::Instant;
 use zone::rows::Interval;
 use zone::rows::Row;
@@ -35,7 +38,7 @@ fn opened(row: Row, to: Interval) -> Row
 }
 
 // How many rows begin inside the interval.
-pub(crate) fn count_inside(rows: &[Row], to: Interval) -> usize
+fn count_inside(rows: &[Row], to: Interval) -> usize
     ensures { λ r. ⌜ r ≡ countBy (begins-inside to) (now (rows .entry)) ⌝ }
 {
     let mut n = 0;
@@ -45,6 +48,13 @@ pub(crate) fn count_inside(rows: &[Row], to: Interval) -> usize
         }
     }
     n
+}
+
+/// Whether the cut of the rows to the interval has no more rows than a window holds.
+pub fn is_cut_small(rows: &[Row], to: Interval) -> bool
+    ensures { λ r. ⌜ r ≡ leb (length (cut (now (rows .entry)) to)) window-rows ⌝ }
+{
+    count_inside(rows, to) < WINDOW_ROWS
 }
 
 // Puts the cut in the place of what `out` held.

@@ -2,4 +2,5 @@ pub mod Intervals
 pub mod Names
 pub mod Refusals
 pub mod Rows
+pub mod Tables
 pub mod Laws

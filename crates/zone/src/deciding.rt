@@ -6,6 +6,7 @@ ghost use lib.Signed.{_<ℤ_};
 ghost use Rattle.std.specs.Of.Vec.{vec-items};
 ghost use Rattle.std.specs.Orderings.{Decides};
 ghost use Rattle.zone.specs.Rows.{Begins, Covers, Ends, Joined, Offset, Small, Sound, table-rows, window-rows};
+ghost use Rattle.zone.specs.Tables.{is-era-table};
 use super::intervals::ERA;
 use super::rows::Interval;
 use super::rows::Row;
@@ -82,5 +83,12 @@ impl Table {
         ensures { λ r. ⌜ Decides r (Sound table-rows (now (self .entry) .interval) (vec-items (now (self .entry) .rows))) ⌝ }
     {
         is_table(self.interval, self.rows.as_slice())
+    }
+
+    /// Whether what stands in it is a table over the whole era.
+    pub fn is_over_era(&self) -> bool
+        ensures { λ r. ⌜ r ≡ is-era-table (now (self .entry) .interval) (vec-items (now (self .entry) .rows)) ⌝ }
+    {
+        self.interval.is_same(ERA) && self.is_table()
     }
 }

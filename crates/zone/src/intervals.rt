@@ -1,6 +1,7 @@
 // Intervals of instants: the era, and what lies inside what.
 ghost use mathlib.Core.Path.{_≡_};
-ghost use Rattle.zone.specs.Intervals.{within, has-instant};
+ghost use Rattle.std.specs.Orderings.{Decides};
+ghost use Rattle.zone.specs.Intervals.{has-instant, within};
 use super::rows::Instant;
 use super::rows::Interval;
 
@@ -16,6 +17,13 @@ impl Interval {
         ensures { λ r. ⌜ r ≡ within (now (self .entry)) outer ⌝ }
     {
         outer.start <= self.start && self.start < self.end && self.end <= outer.end
+    }
+
+    /// Whether the two intervals are the same.
+    pub fn is_same(&self, other: Interval) -> bool
+        ensures { λ r. ⌜ Decides r ((now (self .entry) .start ≡ other .start) × (now (self .entry) .end ≡ other .end)) ⌝ }
+    {
+        self.start == other.start && self.end == other.end
     }
 
     /// Whether the instant lies in the interval.
