@@ -1,0 +1,5 @@
+pub mod Meaning
+pub mod Fetching
+pub mod Publishing
+pub mod Laws
+pub mod Whole
