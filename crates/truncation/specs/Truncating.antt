@@ -16,8 +16,12 @@ abbrev pub span-checked : Interval → Interval → Outcome (Unit {0})
 span-checked span below = cond (within span era) (cond (within span below) (answered tt) (refused 3 [])) (refused 2 [])
 
 -- the span of the truncation: the one asked for, or, where the checks refuse it, the one below
+abbrev pub taken : Outcome (Unit {0}) → Interval → Interval → Interval
+taken (answered done) span below = span
+taken (refused n vs) span below = below
+
 abbrev pub span-kept : Interval → Interval → Interval
-span-kept span below = cond (within span era && within span below) span below
+span-kept span below = taken (span-checked span below) span below
 
 -- a page cut to the span, under its tag
 abbrev pub cut-page : Interval → Option Page → Option Page

@@ -1,8 +1,8 @@
 // The truncation of a provider to a span.
 ghost use mathlib.Core.Path.{_≡_};
 ghost use Rattle.std.specs.Orderings.{When};
-ghost use Rattle.zone.specs.Refusals.{outcome};
-ghost use Rattle.provider.specs.Fetching.{passes};
+ghost use Rattle.zone.specs.Refusals.{answered, outcome};
+ghost use Rattle.provider.specs.Fetching.{checked, passes};
 ghost use Rattle.truncation.specs.Truncating.{cut-page, Over, span-checked, span-kept};
 use provider::answers::check;
 use provider::providers::Provider;
@@ -37,6 +37,16 @@ pub fn check_span<P: Provider>(below: &P, span: Interval) -> Result<(), Refusal>
     Ok(())
 }
 
+// The span of the truncation.
+fn kept_span<P: Provider>(below: &P, span: Interval) -> Interval
+    ensures { λ r. ⌜ r ≡ span-kept span (P·Provider .span (now (below .entry))) ⌝ }
+{
+    match check_span(below, span) {
+        Ok(()) => span,
+        Err(_) => below.span(),
+    }
+}
+
 impl<P: Provider> Truncation<P> {
     /// The provider truncated to the span; where the span is refused, to its own.
     pub fn new(below: P, span: Interval) -> Truncation<P>
@@ -44,11 +54,15 @@ impl<P: Provider> Truncation<P> {
         ensures span { λ r. ⌜ r .span ≡ span-kept span (P·Provider .span below) ⌝ }
         ensures order { λ r. ⌜ (P·Provider .«in_order» below → Over P·Provider (r .below) (r .span)) ⌝ }
     {
-        let span = match check_span(&below, span) {
-            Ok(()) => span,
-            Err(_) => below.span(),
-        };
+        let span = kept_span(&below, span);
         Truncation { below, span }
+    }
+
+    // The checks that every fetch begins with, over its own span.
+    fn check_request(&self, request: &Request) -> Result<(), Refusal>
+        ensures { λ r. ⌜ outcome r ≡ checked (now (request .entry)) (now (self .entry) .span) (answered tt) ⌝ }
+    {
+        check(request, self.span)
     }
 }
 
@@ -72,7 +86,7 @@ pub impl<P: Provider> Provider for Truncation<P> as TruncationProvider {
 
     /// Fetches a page's cut into the lent window.
     fn fetch(&mut self, request: Request, place: &mut Window) -> Result<Reply, Refusal> {
-        check(&request, self.span)?;
+        self.check_request(&request)?;
         let reply = self.below.fetch(request, place)?;
         Ok(reply)
     }
