@@ -1,0 +1,4 @@
+// A layer over a provider: a line that loses requests and replies.
+pub mod fates;
+pub mod lines;
+pub mod marks;
