@@ -1,9 +1,13 @@
 // A line to a provider, on which requests and replies are lost.
+ghost use mathlib.Core.List.{[], _∷_};
 ghost use mathlib.Core.Path.{_≡_};
+ghost use Rattle.std.specs.Of.Vec.{vec-items};
 ghost use Rattle.std.specs.Of.VecDeque.{deque-items};
 ghost use Rattle.std.specs.Orderings.{When};
 ghost use Rattle.std.specs.Results.{Cases};
+ghost use Rattle.zone.specs.Intervals.{era};
 ghost use Rattle.zone.specs.Refusals.{answered, outcome};
+ghost use Rattle.zone.specs.Rows.{utc};
 ghost use Rattle.provider.specs.Fetching.{checked, passes};
 ghost use Rattle.provider.specs.Whole.{meaning};
 ghost use Rattle.line.specs.Fates.{fates-of, next-fate};
@@ -37,7 +41,7 @@ pub struct Line<P> {
 
 // The memory that a line takes.
 fn memory(heap: Global, marks: &[u8]) -> Result<(VecDeque<Fate>, Window), AllocError>
-    ensures { λ r. ⌜ Cases r (λ m. deque-items (m .0) ≡ fates-of (now (marks .entry))) (λ _. Unit {0}) ⌝ }
+    ensures { λ r. ⌜ Cases r (λ m. (deque-items (m .0) ≡ fates-of (now (marks .entry))) × (m .1 .interval ≡ era) × (vec-items (m .1 .rows) ≡ utc ∷ [])) (λ _. Unit {0}) ⌝ }
 {
     let fates = fates_of(heap, marks)?;
     let scratch = Window::new(heap)?;
@@ -47,7 +51,7 @@ fn memory(heap: Global, marks: &[u8]) -> Result<(VecDeque<Fate>, Window), AllocE
 impl<P: Provider> Line<P> {
     /// A line to the provider with a fate for each mark: `p` passes, `q` loses the request, `r` loses the reply. Made of more than 64 bytes or of other bytes it has none. Where there is no memory, the provider is given back.
     pub fn new(heap: Global, below: P, marks: &[u8]) -> Result<Line<P>, Refused<P>>
-        ensures made { λ r. ⌜ Cases r (λ line. (line .below ≡ below) × (deque-items (line .fates) ≡ fates-of (now (marks .entry)))) (λ back. back .value ≡ below) ⌝ }
+        ensures made { λ r. ⌜ Cases r (λ line. (line .below ≡ below) × (deque-items (line .fates) ≡ fates-of (now (marks .entry))) × (line .scratch .interval ≡ era) × (vec-items (line .scratch .rows) ≡ utc ∷ [])) (λ back. back .value ≡ below) ⌝ }
         ensures order { λ r. ⌜ Cases r (λ line. P·Provider .«in_order» below → P·Provider .«in_order» (line .below)) (λ _. Unit {0}) ⌝ }
     {
         match memory(heap, marks) {
