@@ -3,19 +3,17 @@ use mathlib.Core.Path.{_≡_, refl, sym, ap, _∙_, subst}
 use mathlib.Core.List.{[]}
 use Prim.Native.Nat.{ℕ, _≤_, zero-le}
 use Rattle.std.specs.declared.result.Result.{Result}
-use Rattle.std.specs.declared.result.Result.the-variants.{Ok, Err}
 use Rattle.zone.specs.declared.refusals.Refusal.{Refusal}
-use Rattle.zone.specs.declared.refusals.Refusal.the-variants.{Silent}
 use Rattle.zone.specs.declared.windows.Window.{Window}
 use Rattle.zone.specs.Refusals.{Outcome, refused}
 use Rattle.provider.specs.declared.providers.Provider.{Ghosts}
 use Rattle.provider.specs.declared.requests.Reply.{Reply}
 use Rattle.provider.specs.declared.requests.Request.{Request}
-use Rattle.provider.specs.Fetching.{Answer, fetched, judged, Fetched, Leaves, Untouched}
+use Rattle.provider.specs.Fetching.{Fetched}
 use Rattle.provider.specs.Meaning.{Meaning, Keeps, Sound}
 use Rattle.provider.specs.Whole.{meaning}
 use Rattle.provider.proofs.Checks.{Passes, checked-next}
-use Rattle.provider.proofs.Layers.{keeps-all}
+use Rattle.provider.proofs.Layers.{keeps-all, silence}
 use Rattle.line.specs.declared.fates.Fate.{Fate}
 use Rattle.line.specs.declared.fates.Fate.the-variants.{Pass, LoseRequest, LoseReply}
 use Rattle.line.specs.Sending.{Asked, Brought, turn-by}
@@ -31,16 +29,6 @@ low LoseReply t n h = zero-le
 
 pub lined-sound : (f : Fate) (m : Meaning) → Sound m → Sound (lined f m)
 lined-sound f m s = record { in-era = s .in-era; few = s .few; turns = λ n i. low f (m .turn n i) (m .count) (s .turns n i); paged = s .paged; one-table = s .one-table }
-
--- silence, with the lent window as it was
-silence : (m m' : Meaning) (in-order : Type 0) (q : Request) (before after : Window) (r : Result Reply Refusal) → fetched m q ≡ refused 4 [] → r ≡ Err Silent → Untouched before after → in-order → Keeps m m' → m' .count ≡ m .count → Fetched m m' in-order q before after r
-silence m m' in-order q before after r h e u o k c = record {
-  order = o;
-  keeps = k;
-  count = c;
-  told = ap (λ x. judged x after) e ∙ sym h;
-  leaves = subst (λ (x : Result Reply Refusal). Leaves x (q .interval) before after) (sym e) u;
-}
 
 -- a fetch that passes the checks comes to what the fate brings
 pub lined-brought : {S : Type 0} (g : Ghosts S) (f f' : Fate) (s s' : S) (q : Request) (before after : Window) (r : Result Reply Refusal) → Passes q (g .span s) → g .«in_order» s → Asked f (g .«after_fetch») s q s' → Brought f (meaning g s) (meaning g s') (g .«in_order» s') q before after r → Fetched (lined f (meaning g s)) (lined f' (meaning g s')) (g .«in_order» s') q before after r

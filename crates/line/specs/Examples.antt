@@ -7,6 +7,7 @@ use lib.ListN.{length, replicate}
 use Rattle.line.specs.declared.fates.Fate.the-variants.{Pass, LoseRequest, LoseReply}
 use Rattle.line.specs.Fates.{fates-of, next-fate, left-after}
 
+-- marks, a byte that is none, as many as fit and one more, and the fates that are used up
 pub record Worked : Type 0 where
   pub marks : fates-of (codes "pqr") ≡ Pass ∷ LoseRequest ∷ LoseReply ∷ []
   pub other : fates-of (codes "pxr") ≡ []

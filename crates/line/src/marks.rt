@@ -12,12 +12,14 @@ use std::collections::VecDeque;
 /// The most fates that a line is made with.
 pub const MOST_FATES: usize = 64;
 
+// Whether the byte stands for a fate.
 fn is_mark(byte: u8) -> bool
     ensures { λ r. ⌜ r ≡ is-mark byte ⌝ }
 {
     byte == b'p' || byte == b'q' || byte == b'r'
 }
 
+// Whether all bytes do.
 fn are_marks(bytes: &[u8]) -> bool
     ensures { λ r. ⌜ r ≡ are-marks (now (bytes .entry)) ⌝ }
 {

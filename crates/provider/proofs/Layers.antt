@@ -1,20 +1,23 @@
--- What every layer needs of a fetch that its own checks refuse. Assumes nothing.
+-- What every layer needs of a fetch that is refused or lost. Assumes nothing.
 use mathlib.Core.Path.{_≡_, refl, sym, ap, _∙_, subst}
 use mathlib.Core.Bool.{Bool, true, false, _&&_}
-use mathlib.Core.List.{List}
+use mathlib.Core.List.{List, []}
 use Prim.Native.Nat.{ℕ, _≤_}
 use native.Mathlib.Omega.{arith}
 use Rattle.std.specs.Orderings.{When}
+use Rattle.std.specs.declared.result.Result.{Result}
 use Rattle.std.specs.declared.result.Result.the-variants.{Ok, Err}
 use Rattle.std.proofs.shelf.Tests.{and-from, and-parts}
 use Rattle.zone.specs.declared.refusals.Refusal.{Refusal}
+use Rattle.zone.specs.declared.refusals.Refusal.the-variants.{Silent}
 use Rattle.zone.specs.declared.rows.Interval.{Interval}
 use Rattle.zone.specs.declared.windows.Window.{Window}
 use Rattle.zone.specs.Intervals.{era, within}
 use Rattle.zone.specs.Names.{is-name}
 use Rattle.zone.specs.Refusals.{Outcome, answered, refused, outcome, number, values}
+use Rattle.provider.specs.declared.requests.Reply.{Reply}
 use Rattle.provider.specs.declared.requests.Request.{Request}
-use Rattle.provider.specs.Fetching.{checked, passes, fetched, Fetched}
+use Rattle.provider.specs.Fetching.{checked, passes, fetched, judged, Fetched, Leaves, Untouched}
 use Rattle.provider.specs.Meaning.{Meaning, Keeps}
 use Rattle.provider.proofs.Checks.{Passes, checked-next, checked-refused}
 
@@ -51,6 +54,16 @@ refused-fetch m in-order q w e o h = record {
   count = refl;
   told = checked-refused q (m .span) _ (number e) (values e) h;
   leaves = (refl, refl);
+}
+
+-- silence, with the lent window as it was
+pub silence : (m m' : Meaning) (in-order : Type 0) (q : Request) (before after : Window) (r : Result Reply Refusal) → fetched m q ≡ refused 4 [] → r ≡ Err Silent → Untouched before after → in-order → Keeps m m' → m' .count ≡ m .count → Fetched m m' in-order q before after r
+silence m m' in-order q before after r h e u o k c = record {
+  order = o;
+  keeps = k;
+  count = c;
+  told = ap (λ x. judged x after) e ∙ sym h;
+  leaves = subst (λ (x : Result Reply Refusal). Leaves x (q .interval) before after) (sym e) u;
 }
 
 -- which of the two holds

@@ -2,17 +2,11 @@
 use mathlib.Core.Path.{_≡_, refl, ap, _∙_}
 use mathlib.Core.Bool.{Bool, true, false, cond}
 use mathlib.Core.List.{[]}
-use native.Mathlib.Omega.{arith}
-use Rattle.std.proofs.shelf.Signed.{ints}
 use Rattle.zone.specs.declared.rows.Interval.{Interval}
 use Rattle.zone.specs.Intervals.{era, within}
 use Rattle.zone.specs.Refusals.{Outcome, answered, refused}
-use Rattle.cutting.proofs.Clipping.{within-parts}
+use Rattle.cutting.proofs.Clipping.{within-itself}
 use Rattle.truncation.specs.Truncating.{span-kept, taken}
-
--- an interval that rises lies in itself
-within-itself : (i o : Interval) → within i o ≡ true → within i i ≡ true
-within-itself i o h = let p = within-parts i o h in grind (arith, ints)
 
 -- what holds of the span asked for, if it passes, and of the one below, holds of the span that is taken
 taken-both : (P : Interval → Type 0) (a b : Bool) (span below : Interval) → (b ≡ true → P span) → P below → P (taken (cond a (cond b (answered tt) (refused 3 [])) (refused 2 [])) span below)

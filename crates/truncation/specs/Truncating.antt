@@ -15,11 +15,12 @@ use Rattle.provider.specs.declared.providers.Provider.{Ghosts}
 abbrev pub span-checked : Interval → Interval → Outcome (Unit {0})
 span-checked span below = cond (within span era) (cond (within span below) (answered tt) (refused 3 [])) (refused 2 [])
 
--- the span of the truncation: the one asked for, or, where the checks refuse it, the one below
+-- by what the checks come to: the span asked for, or, where they refuse it, the one below
 abbrev pub taken : Outcome (Unit {0}) → Interval → Interval → Interval
 taken (answered done) span below = span
 taken (refused n vs) span below = below
 
+-- the span of a truncation made of the span, over a provider with the span `below`
 abbrev pub span-kept : Interval → Interval → Interval
 span-kept span below = taken (span-checked span below) span below
 
