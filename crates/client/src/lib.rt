@@ -1,0 +1,8 @@
+// The client: it holds part of each zone's table and answers local times while the line is down.
+mod accepting;
+mod changing;
+mod clients;
+mod holding;
+mod pending;
+mod slots;
+mod table;
