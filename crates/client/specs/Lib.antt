@@ -1,3 +1,4 @@
 pub mod Seeing
 pub mod Agreeing
 pub mod Told
+pub mod Taking

@@ -4,9 +4,7 @@ use Prim.Native.Nat.{ℕ}
 use Rattle.std.specs.Of.Vec.{vec-items}
 use Rattle.std.specs.declared.option.Option.{Option}
 use Rattle.std.specs.declared.option.Option.the-variants.{None, Some}
-use Rattle.zone.specs.declared.rows.Interval.{Interval}
 use Rattle.zone.specs.declared.windows.Window.{Window}
-use Rattle.cutting.specs.Cutting.{cut}
 use Rattle.history.specs.Cells.{Copy, Cell, State}
 use Rattle.client.specs.declared.slots.Version.{Version}
 use Rattle.client.specs.declared.slots.Slot.{Slot}
@@ -26,7 +24,3 @@ cells-of s = map cell-of (vec-items (s .slots))
 -- the client as its rules see it
 abbrev pub state-of : Slots → ℕ → State
 state-of slots floor = record { cells = cells-of slots; floor = floor }
-
--- a cell whose copy is still good, cut to an interval, from a later edition
-abbrev pub renewed-cell : Interval → ℕ → Copy → Cell → Cell
-renewed-cell i e c cell = record { owner = cell .owner; copy = Some (record { edition = e; tag = c .tag; interval = i; rows = cut (c .rows) i }); pending = None }

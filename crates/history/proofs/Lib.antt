@@ -1,0 +1,6 @@
+mod Places
+mod Standing
+mod Moving
+mod Tracking
+mod Telling
+mod Promising

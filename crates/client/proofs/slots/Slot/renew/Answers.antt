@@ -1,49 +1,50 @@
-use mathlib.Core.Path.{_≡_, refl, sym, ap, _∙_, subst}
-use mathlib.Core.Bool.{true, false}
+use mathlib.Core.Path.{_≡_, refl, sym, ap, _∙_}
+use mathlib.Core.Bool.{true, cond}
+use mathlib.Core.List.{List}
 use Prim.Native.Nat.{ℕ}
 use native.Mathlib.Omega.{arith}
 use Rattle.std.specs.Of.Vec.{vec-items}
-use Rattle.std.specs.Results.{isErr}
 use Rattle.std.specs.declared.option.Option.{Option}
 use Rattle.std.specs.declared.option.Option.the-variants.{None, Some}
-use Rattle.std.specs.declared.result.Result.{Result}
-use Rattle.std.specs.declared.result.Result.the-variants.{Ok, Err}
-use Rattle.std.proofs.shelf.Tests.{false≢true}
 use Rattle.zone.specs.declared.rows.Interval.{Interval}
 use Rattle.zone.specs.declared.rows.Row.{Row}
 use Rattle.zone.specs.declared.windows.Window.{Window}
 use Rattle.zone.specs.Intervals.{within}
-use Rattle.zone.specs.Refusals.{Outcome, answered}
-use Rattle.cutting.specs.declared.locals.CutRefusal.{CutRefusal}
-use Rattle.cutting.specs.Outcomes.{cut-outcome, cut-result}
+use Rattle.zone.specs.Rows.{Covers}
+use Rattle.cutting.specs.Cutting.{cut}
 use Rattle.cutting.proofs.Fits.{cut-fits}
-use Rattle.provider.proofs.Pages.{cut-of-window}
-use Rattle.history.specs.Cells.{Copy}
+use Rattle.provider.proofs.Pages.{cut-done, cut-of-window}
+use Rattle.history.specs.Cells.{Cell, Copy}
+use Rattle.client.specs.declared.slots.Slot.{Slot}
 use Rattle.client.specs.declared.slots.Version.{Version}
 use Rattle.client.specs.Seeing.{copy-of}
+use Rattle.client.specs.Taking.{can-renew, renewal}
 use Rattle.client.proofs.slots.Slot.renew.Needs as need
 
--- a window's cut to an interval inside is never refused
-never : (w : Window) (to : Interval) (r : Result (Unit {0}) CutRefusal) (place : Window) → isErr r ≡ true → cut-result r place ≡ cut-outcome (w .interval) (vec-items (w .rows)) to → within to (w .interval) ≡ true → ⊥
-never w to (Ok done) place h t i = false≢true h
-never w to (Err e) place h t i =
-    let small = cut-of-window (w .interval) (vec-items (w .rows)) to (record { begins = w .begins; joined = w .joined; ends = w .ends; small = w .small }) (w .few) i in
-    let f = cut-fits (w .interval) (vec-items (w .rows)) to i small in
-    let z : _≡_ {A = ℕ} 0 1 = cc in
-    omega arith
+module _ (slot : Slot) (x : Version) (i : Interval) (e : ℕ) where
+  contains : (v : Option Version) → v ≡ Some x → within i (slot .window .interval) ≡ true → true ≡ can-renew i (copy-of v (slot .window))
+  contains None h w = let z : _≡_ {A = ℕ} 0 1 = cc in absurd (omega arith)
+  contains (Some y) h w = sym w
 
--- a copy's interval is its window's
-copy-interval : (v : Option Version) (w : Window) (c : Copy) → copy-of v w ≡ Some c → w .interval ≡ c .interval
-copy-interval None w c h = let z : _≡_ {A = ℕ} 0 1 = cc in absurd (omega arith)
-copy-interval (Some v) w c h = cc
+  abbrev holding : ℕ → Interval → List Row → Cell
+  holding t a rows = record { owner = slot .owner; copy = Some (record { edition = e; tag = t; interval = a; rows = rows }); pending = None }
 
-pub returns-then-is-err : need.returns-then-is-err
-returns-then-is-err c =
+  renews : (v : Option Version) (new : Window) → v ≡ Some x → within i (slot .window .interval) ≡ true → (vec-items (new .rows) ≡ cut (vec-items (slot .window .rows)) i) × (new .interval ≡ i) → holding (x .tag) (new .interval) (vec-items (new .rows)) ≡ renewal i e (record { owner = slot .owner; copy = copy-of v (slot .window); pending = slot .pending }) (copy-of v (slot .window))
+  renews None new h w d = let z : _≡_ {A = ℕ} 0 1 = cc in absurd (omega arith)
+  renews (Some y) new h w d =
+      let q : x ≡ y = cc in
+      let t : x .tag ≡ y .tag = ap (λ (v : Version). v .tag) q in
+      rw w (ap (λ t. holding t (new .interval) (vec-items (new .rows))) t ∙ ap (λ a. holding (y .tag) a (vec-items (new .rows))) (d .1) ∙ ap (holding (y .tag) i) (d .0))
+
+pub returns : need.returns
+returns c =
     let slot = c .args .self .now in
-    let err = sym (c .is-err .ensures .value) ∙ c .if-is-err .taken in
+    let v = slot .window in
+    let i = c .args .interval in
+    let w = sym (c .if-not-is-within .ensures tt) in
+    let small = cut-of-window (v .interval) (vec-items (v .rows)) i (record { begins = v .begins; joined = v .joined; ends = v .ends; small = v .small }) (v .few) w in
+    let done = cut-done (c .cut-window .result) (vec-items (v .rows)) i (c .args .spare .now) (c .cut-window .last .place) (c .cut-window .ensures .told ∙ cut-fits (v .interval) (vec-items (v .rows)) i w small) (c .cut-window .ensures .leaves) in
     record {
-      renewed = λ copy e w.
-          let i = subst (λ (x : Interval). within (c .args .interval) x ≡ true) (sym (copy-interval (slot .held) (slot .window) copy e)) w in
-          absurd (never (slot .window) (c .args .interval) (c .cut-window .result) (c .cut-window .last .place) err (c .cut-window .ensures .told) i);
-      same = λ _. refl;
+      told = contains slot (c .in-Some .version) i (c .args .edition) (slot .held) (c .in-Some .is) w;
+      after = ap (λ (y : Window). holding slot (c .in-Some .version) i (c .args .edition) (c .in-Some .version .tag) (y .interval) (vec-items (y .rows))) (c .swap .ensures .x-after) ∙ renews slot (c .in-Some .version) i (c .args .edition) (slot .held) (c .cut-window .last .place) (c .in-Some .is) w done;
     }
