@@ -1,4 +1,5 @@
 pub mod Seeing
 pub mod Agreeing
 pub mod Told
+pub mod Following
 pub mod Taking

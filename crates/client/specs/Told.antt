@@ -18,8 +18,6 @@ use Rattle.history.specs.Cells.{State, cell-at}
 use Rattle.history.specs.Steps.{Report, began, collected, abandoned, forgotten, told, declined, handed-back, Step, stays, collected-at, abandon-pending}
 use Rattle.client.specs.declared.pending.PendingFetch.{PendingFetch}
 use Rattle.client.specs.declared.pending.Answer.{Answer}
-use Rattle.client.specs.declared.slots.Slots.{Slots}
-use Rattle.client.specs.Seeing.{state-of}
 
 -- a begin answers an unspent pending fetch
 abbrev pub begin-report : Result PendingFetch Refusal → Report
@@ -72,9 +70,9 @@ abbrev pub Comes-to : Step → Report → State → Type 0
 Comes-to step r s = step ≡ record { report = r; state = s }
 
 -- a zone is begun at a slot, or refused
-abbrev pub slot-outcome : Result ℕ Refusal → Interval → Slots → ℕ → Outcome Step
-slot-outcome (Ok k) i slots floor = answered (record { report = began k i; state = state-of slots floor })
-slot-outcome (Err r) i slots floor = refused (number r) (values r)
+abbrev pub slot-report : Result ℕ Refusal → Interval → Report
+slot-report (Ok k) i = began k i
+slot-report (Err r) i = declined (number r) (values r)
 
 -- a query is answered, or refused
 abbrev pub answer-outcome : Result Answer Refusal → State → Outcome Step

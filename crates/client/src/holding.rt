@@ -2,10 +2,10 @@
 ghost use mathlib.Core.Path.{_≡_};
 ghost use Prim.Native.Nat.{ℕ};
 ghost use Rattle.std.specs.declared.option.Option.the-variants.{None};
-ghost use Rattle.history.specs.Steps.{begun, forget-step, queried-copy, query-step};
+ghost use Rattle.history.specs.Steps.{begun, forget-step, queried-copy, query-step, settled};
 ghost use Rattle.history.specs.Cells.{State, place-of};
 ghost use Rattle.client.specs.Seeing.{cell-of, state-of};
-ghost use Rattle.client.specs.Told.{answer-outcome, Comes-to, forget-report, query-report, slot-outcome};
+ghost use Rattle.client.specs.Told.{answer-outcome, Comes-to, forget-report, query-report, slot-report};
 use super::pending::Answer;
 use super::slots::Slot;
 use super::slots::Slots;
@@ -34,7 +34,7 @@ impl Slot {
 impl Slots {
     // Marks the zone's slot pending, or reserves the first free one; answers its place.
     pub(crate) fn begin(&mut self, name: Name, interval: Interval) -> Result<usize, Refusal>
-        ensures { λ r. ⌜ ((floor : ℕ) → begun (state-of (now (self .entry)) floor) name interval (place-of (state-of (now (self .entry)) floor) name) ≡ slot-outcome r interval (now (self .exit)) floor) ⌝ }
+        ensures { λ r. ⌜ ((floor : ℕ) → Comes-to (settled (state-of (now (self .entry)) floor) (begun (state-of (now (self .entry)) floor) name interval (place-of (state-of (now (self .entry)) floor) name))) (slot-report r interval) (state-of (now (self .exit)) floor)) ⌝ }
     {
         let Some(i) = self.find(&name) else {
             return self.begin_new(name, interval);
@@ -48,7 +48,7 @@ impl Slots {
 
     // Reserves the first free slot.
     fn begin_new(&mut self, name: Name, interval: Interval) -> Result<usize, Refusal>
-        ensures { λ r. ⌜ ((floor : ℕ) → begun (state-of (now (self .entry)) floor) name interval None ≡ slot-outcome r interval (now (self .exit)) floor) ⌝ }
+        ensures { λ r. ⌜ ((floor : ℕ) → Comes-to (settled (state-of (now (self .entry)) floor) (begun (state-of (now (self .entry)) floor) name interval None)) (slot-report r interval) (state-of (now (self .exit)) floor)) ⌝ }
     {
         let Some(i) = self.find_free() else {
             return Err(Refusal::NoFreeSlot);

@@ -1,5 +1,6 @@
 // The client: it holds part of each zone's table and answers local times while the line is down.
 mod accepting;
+mod calls;
 mod changing;
 mod clients;
 mod holding;
