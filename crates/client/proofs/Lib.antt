@@ -1,3 +1,5 @@
 pub mod Finding
 pub mod Collecting
 pub mod Agreement
+pub mod Marks
+pub mod Carried

@@ -3,3 +3,4 @@ pub mod Agreeing
 pub mod Told
 pub mod Following
 pub mod Taking
+pub mod Listing

@@ -1,5 +1,6 @@
 // The client's calls.
 ghost use mathlib.Core.Path.{_≡_};
+ghost use Prim.Native.Nat.{_<_};
 ghost use Rattle.std.specs.Vec.{made};
 ghost use Rattle.provider.specs.Whole.{meaning};
 ghost use Rattle.history.specs.Cells.{new-client};
@@ -26,6 +27,7 @@ impl<P: Provider> Client<P> {
     pub(crate) fn begin(&mut self, name: Name, interval: Interval) -> Result<PendingFetch, Refusal>
         ensures told { λ r. ⌜ Comes-to (begin-step (meaning P·Provider (now (self .entry) .provider)) (state-of (now (self .entry) .slots) (now (self .entry) .floor)) name interval) (begin-report r) (state-of (now (self .exit) .slots) (now (self .exit) .floor)) ⌝ }
         ensures unspent { λ r. ⌜ Unspent r ⌝ }
+        ensures within { λ r. ⌜ made r (λ p. p .slot < 16) ⌝ }
         ensures provider { λ _. ⌜ now (self .exit) .provider ≡ now (self .entry) .provider ⌝ }
     {
         let request = Request {

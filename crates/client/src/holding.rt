@@ -1,6 +1,7 @@
 // The rules of the slots, which ask no provider.
 ghost use mathlib.Core.Path.{_≡_};
-ghost use Prim.Native.Nat.{ℕ};
+ghost use Prim.Native.Nat.{ℕ, _<_};
+ghost use Rattle.std.specs.Vec.{made};
 ghost use Rattle.std.specs.declared.option.Option.the-variants.{None};
 ghost use Rattle.history.specs.Steps.{begun, forget-step, queried-copy, query-step, settled};
 ghost use Rattle.history.specs.Cells.{State, place-of};
@@ -34,7 +35,8 @@ impl Slot {
 impl Slots {
     // Marks the zone's slot pending, or reserves the first free one; answers its place.
     pub(crate) fn begin(&mut self, name: Name, interval: Interval) -> Result<usize, Refusal>
-        ensures { λ r. ⌜ ((floor : ℕ) → Comes-to (settled (state-of (now (self .entry)) floor) (begun (state-of (now (self .entry)) floor) name interval (place-of (state-of (now (self .entry)) floor) name))) (slot-report r interval) (state-of (now (self .exit)) floor)) ⌝ }
+        ensures within { λ r. ⌜ made r (λ i. i < 16) ⌝ }
+        ensures told { λ r. ⌜ ((floor : ℕ) → Comes-to (settled (state-of (now (self .entry)) floor) (begun (state-of (now (self .entry)) floor) name interval (place-of (state-of (now (self .entry)) floor) name))) (slot-report r interval) (state-of (now (self .exit)) floor)) ⌝ }
     {
         let Some(i) = self.find(&name) else {
             return self.begin_new(name, interval);
@@ -48,7 +50,8 @@ impl Slots {
 
     // Reserves the first free slot.
     fn begin_new(&mut self, name: Name, interval: Interval) -> Result<usize, Refusal>
-        ensures { λ r. ⌜ ((floor : ℕ) → Comes-to (settled (state-of (now (self .entry)) floor) (begun (state-of (now (self .entry)) floor) name interval None)) (slot-report r interval) (state-of (now (self .exit)) floor)) ⌝ }
+        ensures within { λ r. ⌜ made r (λ i. i < 16) ⌝ }
+        ensures told { λ r. ⌜ ((floor : ℕ) → Comes-to (settled (state-of (now (self .entry)) floor) (begun (state-of (now (self .entry)) floor) name interval None)) (slot-report r interval) (state-of (now (self .exit)) floor)) ⌝ }
     {
         let Some(i) = self.find_free() else {
             return Err(Refusal::NoFreeSlot);

@@ -1,6 +1,7 @@
-mod Places
-mod Standing
-mod Moving
-mod Tracking
-mod Telling
-mod Promising
+pub mod Places
+pub mod Standing
+pub mod Moving
+pub mod Tracking
+pub mod Telling
+pub mod Promising
+pub mod Going

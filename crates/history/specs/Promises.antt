@@ -17,7 +17,7 @@ use Rattle.cutting.specs.declared.locals.Local.{Local}
 use Rattle.cutting.specs.Cutting.{cut, local}
 use Rattle.provider.specs.Meaning.{Meaning, Page}
 use Rattle.history.specs.Cells.{same-name}
-use Rattle.history.specs.Histories.{Source, Moment, History, end-of, Each, Some-moment, Linked, Outcomes-as-defined}
+use Rattle.history.specs.Histories.{Source, Moment, History, calls-of, reports-of, end-of, Each, Some-moment, Linked, Outcomes-as-defined}
 use Rattle.history.specs.Steps.{Call, begin, collect, abandon, forget, query, publish, Report, began, collected, abandoned, forgotten, told, announced, declined, handed-back, not-pending}
 
 -- the zone that a call is about
@@ -170,3 +170,13 @@ module _ {S : Type 0} (src : Source S) where
 -- Every history of a new client over the provider, whose moments are linked and whose outcomes are the defined ones, stands.
 abbrev pub Histories-stand : {S : Type 0} → Source S → S → Type 0
 Histories-stand {S} src first = (h : History S) → Linked src first h → Outcomes-as-defined src h → Stands src first h
+
+-- calls that were made on a new client over the provider, and what they came to: there is a history with these calls and
+-- outcomes, from the provider's state at first to the one at last, and it stands
+pub record Replayed {S : Type 0} (src : Source S) (first last : S) (calls : List Call) (reports : List Report) : Type 0 where
+  pub history : History S
+  pub called : calls-of history ≡ calls
+  pub reported : reports-of history ≡ reports
+  pub linked : Linked src first history
+  pub ended : end-of first history ≡ last
+  pub stands : Stands src first history

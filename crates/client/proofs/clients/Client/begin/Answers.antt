@@ -27,17 +27,17 @@ pub returns-in-Break-check : need.returns-in-Break-check
 returns-in-Break-check g c =
     let p = err-from-errBy (c .from-residual .result) (c .from-residual .ensures .1) in
     let s = state-of (c .args .self .now .slots) (c .args .self .now .floor) in
-    rw (p .1, p .2) (record { told = declines s (record { name = c .args .name; interval = c .args .interval; known = 0 }) (c .span .result) _ (begun s (c .args .name) (c .args .interval) (place-of s (c .args .name))) _ _ (c .span .ensures) (c .in-Break-check .ensures tt); unspent = tt; provider = refl })
+    rw (p .1, p .2) (record { told = declines s (record { name = c .args .name; interval = c .args .interval; known = 0 }) (c .span .result) _ (begun s (c .args .name) (c .args .interval) (place-of s (c .args .name))) _ _ (c .span .ensures) (c .in-Break-check .ensures tt); unspent = tt; within = tt; provider = refl })
 
 pub returns-in-Break-slot : need.returns-in-Break-slot
 returns-in-Break-slot g c =
     let p = err-from-errBy (c .from-residual-in-Break-slot .result) (c .from-residual-in-Break-slot .ensures .1) in
     let s = state-of (c .args .self .now .slots) (c .args .self .now .floor) in
     let s' = state-of (c .begin .last .self) (c .args .self .now .floor) in
-    rw (p .1, p .2) (record { told = passes s s' (record { name = c .args .name; interval = c .args .interval; known = 0 }) (c .span .result) _ (begun s (c .args .name) (c .args .interval) (place-of s (c .args .name))) _ (c .span .ensures) (c .in-Continue-check .ensures tt) (c .in-Break-slot .ensures tt (c .args .self .now .floor)); unspent = tt; provider = refl })
+    rw (p .1, p .2) (record { told = passes s s' (record { name = c .args .name; interval = c .args .interval; known = 0 }) (c .span .result) _ (begun s (c .args .name) (c .args .interval) (place-of s (c .args .name))) _ (c .span .ensures) (c .in-Continue-check .ensures tt) (c .in-Break-slot .ensures tt .told (c .args .self .now .floor)); unspent = tt; within = tt; provider = refl })
 
 pub returns : need.returns
 returns g c =
     let s = state-of (c .args .self .now .slots) (c .args .self .now .floor) in
     let s' = state-of (c .begin .last .self) (c .args .self .now .floor) in
-    record { told = passes s s' (record { name = c .args .name; interval = c .args .interval; known = 0 }) (c .span .result) _ (begun s (c .args .name) (c .args .interval) (place-of s (c .args .name))) _ (c .span .ensures) (c .in-Continue-check .ensures tt) (c .in-Continue-slot .ensures tt (c .args .self .now .floor)); unspent = refl; provider = refl }
+    record { told = passes s s' (record { name = c .args .name; interval = c .args .interval; known = 0 }) (c .span .result) _ (begun s (c .args .name) (c .args .interval) (place-of s (c .args .name))) _ (c .span .ensures) (c .in-Continue-check .ensures tt) (c .in-Continue-slot .ensures tt .told (c .args .self .now .floor)); unspent = refl; within = c .in-Continue-slot .ensures tt .within; provider = refl }
