@@ -3,3 +3,4 @@ pub mod Collecting
 pub mod Agreement
 pub mod Marks
 pub mod Carried
+pub mod Starting

@@ -7,6 +7,8 @@ mod holding;
 mod listing;
 mod pending;
 mod performing;
+mod posting;
+mod replays;
 mod sessions;
 mod slots;
 mod table;

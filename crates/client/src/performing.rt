@@ -16,7 +16,7 @@ use zone::rows::Interval;
 
 impl PendingFetch {
     // Ends a pending fetch that no client waits for.
-    fn end(mut self) {
+    pub(crate) fn end(mut self) {
         self.spent = true;
     }
 }
