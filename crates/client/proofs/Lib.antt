@@ -4,3 +4,4 @@ pub mod Agreement
 pub mod Marks
 pub mod Carried
 pub mod Starting
+pub mod Entries

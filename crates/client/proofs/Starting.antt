@@ -35,3 +35,8 @@ goes-on src first before after call-of report-of calls outcomes outcomes' i d y 
     let more = map-more call-of calls i d l in
     let told = ap (map report-of) push ∙ map-push report-of outcomes y in
     subst (λ x. Going src first after x (map report-of outcomes') s') (sym more) (subst (λ x. Going src first after (map call-of (take i calls) ++ (call-of (getD calls i d) ∷ [])) x s') (sym told) (going-goes src first before after (map call-of (take i calls)) (map report-of outcomes) (call-of (getD calls i d)) (report-of y) s s' goes g))
+
+-- the same, where the call is read from the list
+pub goes-on-item : {S X Y : Type 0} (src : Source S) (first before after : S) (call-of : X → Call) (report-of : Y → Report) (calls : List X) (outcomes outcomes' : List Y) (i : ℕ) (x : X) (y : Y) (s s' : State) → i < length calls → x ≡ getD calls i x → outcomes' ≡ outcomes ++ (y ∷ []) → Goes src before after (call-of x) (report-of y) s s' → Going src first before (map call-of (take i calls)) (map report-of outcomes) s → Going src first after (map call-of (take (i + 1) calls)) (map report-of outcomes') s'
+goes-on-item src first before after call-of report-of calls outcomes outcomes' i x y s s' l is push goes g =
+    goes-on src first before after call-of report-of calls outcomes outcomes' i x y s s' l push (subst (λ z. Goes src before after (call-of z) (report-of y) s s') is goes) g

@@ -9,11 +9,12 @@ use Rattle.std.specs.declared.option.Option.the-variants.{None, Some}
 use Rattle.zone.specs.declared.rows.Interval.{Interval}
 use Rattle.zone.specs.Refusals.{number, values}
 use Rattle.provider.specs.declared.providers.Provider.{Ghosts}
+use Rattle.provider.specs.declared.publishing.Publishing.{Ghosts as Publishing-ghosts}
 use Rattle.provider.specs.Meaning.{Keeps}
 use Rattle.provider.specs.Whole.{meaning}
 use Rattle.history.specs.Cells.{State, cell-at}
-use Rattle.history.specs.Histories.{Source, Moves}
-use Rattle.history.specs.Sources.{source}
+use Rattle.history.specs.Histories.{Moves}
+use Rattle.history.specs.Sources.{publishing-source, source}
 use Rattle.history.specs.Steps as rules
 use Rattle.client.specs.declared.listing.Call.{Call}
 use Rattle.client.specs.declared.listing.Call.the-variants.{Begin, Collect, Abandon, Forget, Query}
@@ -22,7 +23,6 @@ use Rattle.client.specs.declared.listing.Entry.the-variants as entry
 use Rattle.client.specs.declared.listing.Outcome.{Outcome}
 use Rattle.client.specs.declared.listing.Outcome.the-variants.{Began, Collected, Abandoned, Forgotten, Answered, Published, Refused, HandedBack, NotPending}
 use Rattle.client.specs.declared.pending.PendingFetch.{PendingFetch}
-use Rattle.client.specs.Agreeing.{Agrees}
 use Rattle.client.specs.Following.{Client-in-order}
 
 abbrev pub call-of : Call → rules.Call
@@ -60,6 +60,14 @@ Matches tokens s = (k : ℕ) → k < 16 → getD tokens k None ≡ token-for k (
 pub record Performed {S : Type 0} (g : Ghosts S) (call : rules.Call) (before after : S) (s s' : State) (tokens' : List (Option PendingFetch)) (r : rules.Report) : Type 0 where
   pub told : rules.step (meaning g before) (λ n. false) s call ≡ record { report = r; state = s' }
   pub moves : Moves (source g) s call before after
+  pub keeps : Keeps (meaning g before) (meaning g after)
+  pub order : Client-in-order g after s'
+  pub matches : Matches tokens' s'
+
+-- the same of an entry, over a provider that takes publications
+pub record Posted {S : Type 0} (g : Ghosts S) (h : Publishing-ghosts S) (call : rules.Call) (before after : S) (s s' : State) (tokens' : List (Option PendingFetch)) (r : rules.Report) : Type 0 where
+  pub told : rules.step (meaning g before) (h .fits before) s call ≡ record { report = r; state = s' }
+  pub moves : Moves (publishing-source g h) s call before after
   pub keeps : Keeps (meaning g before) (meaning g after)
   pub order : Client-in-order g after s'
   pub matches : Matches tokens' s'

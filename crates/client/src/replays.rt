@@ -8,18 +8,21 @@ ghost use Rattle.std.specs.declared.option.Option.the-variants.{None};
 ghost use Rattle.history.specs.Cells.{new-client};
 ghost use Rattle.history.specs.Promises.{Histories-stand, Replayed};
 ghost use Rattle.history.specs.Sources.{publishing-source, source};
-ghost use Rattle.client.specs.Listing.{call-of, entry-of, report-of};
+ghost use Rattle.history.specs.Steps.{publish};
+ghost use Rattle.client.specs.Following.{Client-in-order};
+ghost use Rattle.client.specs.Listing.{call-of, entry-of, Matches, Posted, report-of};
 ghost use Rattle.client.specs.Seeing.{state-of};
 use super::clients::Client;
 use super::listing::Call;
 use super::listing::Entry;
 use super::listing::Outcome;
-use super::pending::PendingFetch;
 use super::sessions::Session;
 use provider::providers::Provider;
 use provider::publishing::Publishing;
 use std::alloc::AllocError;
 use std::alloc::Global;
+use zone::names::Name;
+use zone::windows::Table;
 
 impl<P: Provider> Session<P> {
     // A new client with nothing pending.
@@ -69,6 +72,46 @@ pub fn replay<P: Provider + Drop>(
     let mut session = Session::new(heap, provider)?;
     for call in calls {
         let outcome = session.perform(*call);
+        outcomes.push_reserved(outcome);
+    }
+    Ok((outcomes, session.close()))
+}
+
+impl<P: Publishing> Session<P> {
+    // Makes one publication of a list.
+    fn publish(&mut self, name: Name, table: &Table) -> Outcome
+        ensures { λ r. ⌜ (Client-in-order P·Provider (now (self .entry) .client .provider) (state-of (now (self .entry) .client .slots) (now (self .entry) .client .floor)) → Matches (vec-items (now (self .entry) .tokens)) (state-of (now (self .entry) .client .slots) (now (self .entry) .client .floor)) → Posted P·Provider P·Publishing (publish name (now (table .entry))) (now (self .entry) .client .provider) (now (self .exit) .client .provider) (state-of (now (self .entry) .client .slots) (now (self .entry) .client .floor)) (state-of (now (self .exit) .client .slots) (now (self .exit) .client .floor)) (vec-items (now (self .exit) .tokens)) (report-of r)) ⌝ }
+    {
+        match self.client.publish(name, table) {
+            Ok(edition) => Outcome::Published { edition },
+            Err(refusal) => Outcome::Refused { refusal },
+        }
+    }
+
+    // Makes one entry of a list.
+    fn post(&mut self, entry: &Entry) -> Outcome
+        ensures { λ r. ⌜ (Client-in-order P·Provider (now (self .entry) .client .provider) (state-of (now (self .entry) .client .slots) (now (self .entry) .client .floor)) → Matches (vec-items (now (self .entry) .tokens)) (state-of (now (self .entry) .client .slots) (now (self .entry) .client .floor)) → Posted P·Provider P·Publishing (entry-of (now (entry .entry))) (now (self .entry) .client .provider) (now (self .exit) .client .provider) (state-of (now (self .entry) .client .slots) (now (self .entry) .client .floor)) (state-of (now (self .exit) .client .slots) (now (self .exit) .client .floor)) (vec-items (now (self .exit) .tokens)) (report-of r)) ⌝ }
+    {
+        match entry {
+            Entry::Call { call } => self.perform(*call),
+            Entry::Publish { name, table } => self.publish(*name, table),
+        }
+    }
+}
+
+/// The same with publications, over a provider that takes them.
+pub fn replay_publishing<P: Publishing + Drop>(
+    heap: Global,
+    provider: P,
+    entries: &[Entry],
+) -> Result<(Vec<Outcome>, P), AllocError>
+    ensures replayed { λ r. ⌜ (P·Provider .«in_order» provider → made r (λ v. Replayed (publishing-source P·Provider P·Publishing) provider (v .1) (map entry-of (now (entries .entry))) (map report-of (vec-items (v .0))))) ⌝ }
+    ensures every { λ _. ⌜ Histories-stand (publishing-source P·Provider P·Publishing) provider ⌝ }
+{
+    let mut outcomes = Vec::with_capacity(heap, entries.len())?;
+    let mut session = Session::new(heap, provider)?;
+    for entry in entries {
+        let outcome = session.post(entry);
         outcomes.push_reserved(outcome);
     }
     Ok((outcomes, session.close()))
