@@ -1,0 +1,14 @@
+// The client: it holds part of each zone's table and answers local times while the line is down.
+mod accepting;
+mod calls;
+mod changing;
+mod clients;
+mod holding;
+mod listing;
+mod pending;
+mod performing;
+mod posting;
+mod replays;
+mod sessions;
+mod slots;
+mod table;
