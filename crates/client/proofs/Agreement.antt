@@ -18,6 +18,7 @@ use Rattle.zone.specs.Rows.{window-rows}
 use Rattle.zone.specs.Refusals.{Outcome, answered, refused}
 use Rattle.cutting.specs.Cutting.{cut}
 use Rattle.provider.specs.Meaning.{Meaning, Page, Keeps, Sound}
+use Rattle.provider.proofs.Held.{held-on}
 use Rattle.history.specs.Cells.{Copy, Cell, State, free, cell-at}
 use Rattle.history.specs.Steps.{Step, stays, handed-back, settled, accepted, taken, collected-at}
 use Rattle.client.specs.Agreeing.{Copied, Ready, Copied-if, Ready-if, Cell-agrees, Agrees}
@@ -37,22 +38,12 @@ agrees-set m s k floor c h a j = elim (cases-eq j k) [
 ]
 
 -- the record goes on
-copied-on : (m m' : Meaning) (n : Name) (c : Copy) → Sound m → Keeps m m' → Copied m n c → Copied m' n c
-copied-on m m' n c sound keeps d =
-    record {
-      page = d .page;
-      paged = keeps .same (c .edition) n (sound .paged (c .edition) n (d .page) (d .paged) .last) ∙ d .paged;
-      tag = d .tag;
-      rows = d .rows;
-      inside = subst (λ (x : Interval). within (c .interval) x ≡ true) (sym (keeps .span)) (d .inside);
-    }
-
 ready-on : (m m' : Meaning) (n : Name) (i : Interval) → Keeps m m' → Ready m n i → Ready m' n i
 ready-on m m' n i keeps r = record { name = r .name; in-era = r .in-era; inside = subst (λ (x : Interval). within i x ≡ true) (sym (keeps .span)) (r .inside) }
 
 copied-if-on : (m m' : Meaning) (n : Name) (c : Option Copy) → Sound m → Keeps m m' → Copied-if m n c → Copied-if m' n c
 copied-if-on m m' n None sound keeps d = tt
-copied-if-on m m' n (Some c) sound keeps d = copied-on m m' n c sound keeps d
+copied-if-on m m' n (Some c) sound keeps d = held-on m m' n (c .edition) (c .tag) (c .interval) (c .rows) sound keeps d
 
 ready-if-on : (m m' : Meaning) (n : Name) (i : Option Interval) → Keeps m m' → Ready-if m n i → Ready-if m' n i
 ready-if-on m m' n None keeps r = tt
@@ -70,7 +61,7 @@ module _ (m : Meaning) (s : State) (k : ℕ) (i : Interval) (n : Name) (owner : 
   accepted-agrees : (e : ℕ) (p : Page) → m .pages e n ≡ Some p → Agrees m (accepted s k i e p .state)
   accepted-agrees e p h =
       let new : Cell = record { owner = cell-at s k .owner; copy = Some (record { edition = e; tag = p .tag; interval = i; rows = cut (p .rows) i }); pending = None } in
-      agrees-set m s k e new (subst (λ (o : Option Name). Cell-agrees m o new) (sym owner) (record { page = p; paged = h; tag = refl; rows = refl; inside = ready .inside }, tt)) a
+      agrees-set m s k e new (subst (λ (o : Option Name). Cell-agrees m o new) (sym owner) (record { page = p; paged = h; tagged = refl; is-cut = refl; inside = ready .inside }, tt)) a
 
   taken-agrees : (e : ℕ) (page : Option Page) → m .pages e n ≡ page → Agrees m (taken s k i e page .state)
   taken-agrees e None h = a

@@ -23,13 +23,13 @@ use Rattle.zone.specs.Refusals.{Outcome, answered, refused, number, values}
 use Rattle.zone.specs.Rows.{window-rows}
 use Rattle.zone.proofs.Testing.{decides-interval}
 use Rattle.cutting.specs.Cutting.{cut}
-use Rattle.cutting.proofs.Clipping.{cuts-agree}
 use Rattle.provider.specs.declared.requests.Reply.{Reply}
 use Rattle.provider.specs.declared.requests.Reply.the-variants.{Unchanged, Fresh}
 use Rattle.provider.specs.declared.requests.Request.{Request}
 use Rattle.provider.specs.Fetching.{Answer, unchanged, fresh, page-answer, edition-answer, turn-answer, fetched, judged, Leaves}
 use Rattle.provider.specs.Laws.{Answering}
 use Rattle.provider.specs.Meaning.{Meaning, Page, Sound}
+use Rattle.provider.proofs.Held.{held-cut}
 use Rattle.provider.proofs.Checks.{Passes, checked-next, answers-come-from-pages}
 use Rattle.history.specs.Cells.{Copy, Cell, State, cell-at}
 use Rattle.history.specs.Steps.{Report, handed-back, Step, stays, known-tag, accepted, taken, collected-at}
@@ -126,12 +126,7 @@ module _ (m : Meaning) (sound : Sound m) (n : Name) (i : Interval) (e : ℕ) (p 
   with-rows t rows = record { owner = cell .owner; copy = Some (record { edition = e; tag = t; interval = i; rows = rows }); pending = None }
 
   still-good : (c : Copy) → Copied m n c → c .tag ≡ p .tag → within i (c .interval) ≡ true → with-rows (c .tag) (cut (c .rows) i) ≡ with-page
-  still-good c d t w =
-      let same : d .page .rows ≡ p .rows = sound .one-table (c .edition) e n (d .page) p (d .paged) paged (d .tag ∙ t) in
-      let covers = sound .paged (c .edition) n (d .page) (d .paged) .covers in
-      let again = cuts-agree (m .span) (d .page .rows) (c .interval) covers (d .inside) .again i w in
-      let rows : cut (c .rows) i ≡ cut (p .rows) i = ap (λ x. cut x i) (d .rows) ∙ again ∙ ap (λ x. cut x i) same in
-      ap (λ x. with-rows x (cut (c .rows) i)) t ∙ ap (with-rows (p .tag)) rows
+  still-good c d t w = ap (λ x. with-rows x (cut (c .rows) i)) t ∙ ap (with-rows (p .tag)) (held-cut m n (c .edition) (c .tag) (c .interval) (c .rows) e p i sound d paged (sym t) w)
 
   renewed-is : (c : Copy) (b : Bool) → within i (c .interval) ≡ b → p .tag ≡ cond b (c .tag) 0 → Copied m n c → (b ≡ true) × (cond b (record { owner = cell .owner; copy = Some (renewed i e c); pending = None }) cell ≡ with-page)
   renewed-is c true w t d = (refl, still-good c d (sym t) w)

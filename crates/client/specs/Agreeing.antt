@@ -8,17 +8,13 @@ use Rattle.zone.specs.declared.names.Name.{Name}
 use Rattle.zone.specs.declared.rows.Interval.{Interval}
 use Rattle.zone.specs.Intervals.{era, within}
 use Rattle.zone.specs.Names.{is-name}
-use Rattle.cutting.specs.Cutting.{cut}
-use Rattle.provider.specs.Meaning.{Meaning, Page}
+use Rattle.provider.specs.Holding.{From-page}
+use Rattle.provider.specs.Meaning.{Meaning}
 use Rattle.history.specs.Cells.{Copy, Cell, State, free, cell-at}
 
--- the copy is the cut of the record's page at its edition, with its tag
-pub record Copied (m : Meaning) (n : Name) (c : Copy) : Type 0 where
-  pub page : Page
-  pub paged : m .pages (c .edition) n ≡ Some page
-  pub tag : page .tag ≡ c .tag
-  pub rows : c .rows ≡ cut (page .rows) (c .interval)
-  pub inside : within (c .interval) (m .span) ≡ true
+-- the copy is from the record: the cut of the page of its edition, with its tag
+abbrev pub Copied : Meaning → Name → Copy → Type 0
+Copied m n c = From-page m n (c .edition) (c .tag) (c .interval) (c .rows)
 
 -- a fetch of the zone over the interval passes the first three checks
 pub record Ready (m : Meaning) (n : Name) (i : Interval) : Type 0 where

@@ -23,12 +23,13 @@ use zone::rows::Instant;
 use zone::rows::Interval;
 
 impl<P: Provider> Client<P> {
-    // Begins a fetch of the zone over the interval.
-    pub(crate) fn begin(&mut self, name: Name, interval: Interval) -> Result<PendingFetch, Refusal>
+    /// Begins a fetch of the zone over the interval, and answers the pending fetch. Refused with 1, 2, 3, with 8 where the zone has a pending fetch already, and with 9 where all slots are taken by other zones.
+    pub fn begin(&mut self, name: Name, interval: Interval) -> Result<PendingFetch, Refusal>
         ensures told { λ r. ⌜ Comes-to (begin-step (meaning P·Provider (now (self .entry) .provider)) (state-of (now (self .entry) .slots) (now (self .entry) .floor)) name interval) (begin-report r) (state-of (now (self .exit) .slots) (now (self .exit) .floor)) ⌝ }
         ensures unspent { λ r. ⌜ Unspent r ⌝ }
         ensures within { λ r. ⌜ made r (λ p. p .slot < 16) ⌝ }
         ensures provider { λ _. ⌜ now (self .exit) .provider ≡ now (self .entry) .provider ⌝ }
+        ensures order { λ _. ⌜ (Client-in-order P·Provider (now (self .entry) .provider) (state-of (now (self .entry) .slots) (now (self .entry) .floor)) → Client-in-order P·Provider (now (self .exit) .provider) (state-of (now (self .exit) .slots) (now (self .exit) .floor))) ⌝ }
     {
         let request = Request {
             name,
@@ -66,11 +67,8 @@ impl<P: Provider> Client<P> {
             .take(slot, interval, reply, &mut self.floor, &mut self.spare)
     }
 
-    // Collects a pending fetch.
-    pub(crate) fn collect(
-        &mut self,
-        mut pending: PendingFetch,
-    ) -> Result<Edition, (Refusal, PendingFetch)>
+    /// Collects a pending fetch, and answers the edition that is held from now on. Refused with 10, 4, 7, 5 and 6, in this order; a refusal hands the pending fetch back.
+    pub fn collect(&mut self, mut pending: PendingFetch) -> Result<Edition, (Refusal, PendingFetch)>
         ensures asked { λ _. ⌜ Asked P·Provider (state-of (now (self .entry) .slots) (now (self .entry) .floor)) (pending .slot) (pending .interval) (now (self .entry) .provider) (now (self .exit) .provider) ⌝ }
         ensures told { λ r. ⌜ (Client-in-order P·Provider (now (self .entry) .provider) (state-of (now (self .entry) .slots) (now (self .entry) .floor)) → Collected P·Provider (state-of (now (self .entry) .slots) (now (self .entry) .floor)) (pending .slot) (pending .interval) (now (self .entry) .provider) (now (self .exit) .provider) (collect-report r) (state-of (now (self .exit) .slots) (now (self .exit) .floor))) ⌝ }
         ensures back { λ r. ⌜ Hands-back pending r ⌝ }
@@ -84,14 +82,12 @@ impl<P: Provider> Client<P> {
         }
     }
 
-    // Gives up a pending fetch.
-    pub(crate) fn abandon(
-        &mut self,
-        mut pending: PendingFetch,
-    ) -> Result<(), (Refusal, PendingFetch)>
+    /// Gives up a pending fetch. Refused with 10, which hands it back.
+    pub fn abandon(&mut self, mut pending: PendingFetch) -> Result<(), (Refusal, PendingFetch)>
         ensures told { λ r. ⌜ Comes-to (abandon-token (state-of (now (self .entry) .slots) (now (self .entry) .floor)) (pending .slot) (pending .interval)) (abandon-report r) (state-of (now (self .exit) .slots) (now (self .exit) .floor)) ⌝ }
         ensures back { λ r. ⌜ Hands-back pending r ⌝ }
         ensures provider { λ _. ⌜ now (self .exit) .provider ≡ now (self .entry) .provider ⌝ }
+        ensures order { λ _. ⌜ (Client-in-order P·Provider (now (self .entry) .provider) (state-of (now (self .entry) .slots) (now (self .entry) .floor)) → Client-in-order P·Provider (now (self .exit) .provider) (state-of (now (self .exit) .slots) (now (self .exit) .floor))) ⌝ }
     {
         match self.slots.abandon(pending.slot, pending.interval) {
             Ok(()) => {
@@ -102,16 +98,17 @@ impl<P: Provider> Client<P> {
         }
     }
 
-    // Forgets what is held of the zone.
-    pub(crate) fn forget(&mut self, name: Name) -> Result<(), Refusal>
+    /// Forgets what is held of the zone. Refused with 1, with 11 where nothing is held, and with 8 while a fetch is pending.
+    pub fn forget(&mut self, name: Name) -> Result<(), Refusal>
         ensures told { λ r. ⌜ Comes-to (forget-step (state-of (now (self .entry) .slots) (now (self .entry) .floor)) name) (forget-report r) (state-of (now (self .exit) .slots) (now (self .exit) .floor)) ⌝ }
         ensures provider { λ _. ⌜ now (self .exit) .provider ≡ now (self .entry) .provider ⌝ }
+        ensures order { λ _. ⌜ (Client-in-order P·Provider (now (self .entry) .provider) (state-of (now (self .entry) .slots) (now (self .entry) .floor)) → Client-in-order P·Provider (now (self .exit) .provider) (state-of (now (self .exit) .slots) (now (self .exit) .floor))) ⌝ }
     {
         self.slots.forget(name)
     }
 
-    // The local time in the zone at an instant, with the edition that it comes from.
-    pub(crate) fn query(&self, name: Name, at: Instant) -> Result<Answer, Refusal>
+    /// The local time in the zone at an instant, with the edition that it comes from. Refused with 1, with 11 where nothing is held, and with 12 outside of what is held.
+    pub fn query(&self, name: Name, at: Instant) -> Result<Answer, Refusal>
         ensures { λ r. ⌜ Comes-to (query-step (state-of (now (self .entry) .slots) (now (self .entry) .floor)) name (at .0)) (query-report r) (state-of (now (self .entry) .slots) (now (self .entry) .floor)) ⌝ }
     {
         self.slots.query(name, at)

@@ -1,14 +1,14 @@
 // The client: it holds part of each zone's table and answers local times while the line is down.
 mod accepting;
-mod calls;
+pub mod calls;
 mod changing;
-mod clients;
+pub mod clients;
 mod holding;
-mod listing;
-mod pending;
+pub mod listing;
+pub mod pending;
 mod performing;
-mod posting;
-mod replays;
+pub mod posting;
+pub mod replays;
 mod sessions;
 mod slots;
 mod table;

@@ -17,8 +17,8 @@ use zone::windows::Table;
 use zone::windows::Window;
 
 impl<P> Client<P> {
-    // A client that holds nothing, with all memory that its calls will need.
-    pub(crate) fn new(heap: Global, provider: P) -> Result<Client<P>, AllocError>
+    /// A client that holds nothing, with all memory that its calls will need.
+    pub fn new(heap: Global, provider: P) -> Result<Client<P>, AllocError>
     where
         P: Drop,
         ensures { λ r. ⌜ made r (λ c. (c .provider ≡ provider) × (state-of (c .slots) (c .floor) ≡ new-client)) ⌝ }
@@ -33,8 +33,8 @@ impl<P> Client<P> {
         })
     }
 
-    // The provider, as the calls left it.
-    pub(crate) fn into_provider(self) -> P
+    /// The provider, as the calls left it.
+    pub fn into_provider(self) -> P
         ensures { λ r. ⌜ r ≡ self .provider ⌝ }
     {
         let Client {
@@ -48,8 +48,8 @@ impl<P> Client<P> {
 }
 
 impl<P: Publishing> Client<P> {
-    // Passes a publication down.
-    pub(crate) fn publish(&mut self, name: Name, table: &Table) -> Result<Edition, Refusal>
+    /// Passes a publication down.
+    pub fn publish(&mut self, name: Name, table: &Table) -> Result<Edition, Refusal>
         ensures after { λ _. ⌜ P·Publishing .«after_publish» (now (self .entry) .provider) name (now (table .entry)) (now (self .exit) .provider) ⌝ }
         ensures told { λ r. ⌜ (P·Provider .«in_order» (now (self .entry) .provider) → Published (meaning P·Provider (now (self .entry) .provider)) (meaning P·Provider (now (self .exit) .provider)) (P·Provider .«in_order» (now (self .exit) .provider)) (P·Publishing .fits (now (self .entry) .provider)) name (now (table .entry)) (now (self .entry) .provider) (now (self .exit) .provider) r) ⌝ }
         ensures held { λ _. ⌜ state-of (now (self .exit) .slots) (now (self .exit) .floor) ≡ state-of (now (self .entry) .slots) (now (self .entry) .floor) ⌝ }
