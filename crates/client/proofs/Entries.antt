@@ -42,17 +42,18 @@ moves-alike g h s (Abandon n) before after m = m
 moves-alike g h s (Forget n) before after m = m
 moves-alike g h s (Query n t) before after m = m
 
+-- a publication keeps the record
+pub publish-keeps : {S : Type 0} (g : Ghosts S) (h : Publishing-ghosts S) (before after : S) (n : Name) (t : Table) (r : Result ℕ Refusal) → Published (meaning g before) (meaning g after) (g .«in_order» after) (h .fits before) n t before after r → Keeps (meaning g before) (meaning g after)
+publish-keeps g h before after n t (Ok e) p = p .brings .keeps
+publish-keeps g h before after n t (Err e) p = subst (λ x. Keeps (meaning g before) (meaning g x)) (sym (p .brings)) (keeps-same (meaning g before))
+
 module _ {S : Type 0} (g : Ghosts S) (h : Publishing-ghosts S) (before after : S) (s s' : State) (tokens' : List (Option PendingFetch)) where
   pub posted-call : (c : Call) (r : Report) → Performed g (call-of c) before after s s' tokens' r → Posted g h (call-of c) before after s s' tokens' r
   posted-call c r p = record { told = fits-alike (meaning g before) (h .fits before) (λ n. false) s c ∙ p .told; moves = moves-alike g h s c before after (p .moves); keeps = p .keeps; order = p .order; matches = p .matches }
 
-  -- what a publication's result says
-  report : Result ℕ Refusal → Report
-  report r = publish-report (outcome r)
-
   pub posted : (n : Name) (t : Table) (r : Result ℕ Refusal) → Sound (meaning g before) → s' ≡ s → h .«after_publish» before n t after → Published (meaning g before) (meaning g after) (g .«in_order» after) (h .fits before) n t before after r → Client-in-order g before s → Matches tokens' s → Posted g h (publish n t) before after s s' tokens' (publish-report (outcome r))
   posted n t r sound q moves p o m =
-      let keeps = kept r p in
+      let keeps = publish-keeps g h before after n t r p in
       record {
         told = ap (λ x. stays s (publish-report x)) (sym (p .told)) ∙ ap (λ x. record { report = publish-report (outcome r); state = x }) (sym q);
         moves = moves;
@@ -60,7 +61,3 @@ module _ {S : Type 0} (g : Ghosts S) (h : Publishing-ghosts S) (before after : S
         order = record { order = p .order; agrees = subst (Agrees (meaning g after)) (sym q) (agrees-keeps (meaning g before) (meaning g after) s sound keeps (o .agrees)) };
         matches = subst (Matches tokens') (sym q) m;
       }
-    where
-      kept : (r : Result ℕ Refusal) → Published (meaning g before) (meaning g after) (g .«in_order» after) (h .fits before) n t before after r → Keeps (meaning g before) (meaning g after)
-      kept (Ok e) p = p .brings .keeps
-      kept (Err e) p = subst (λ x. Keeps (meaning g before) (meaning g x)) (sym (p .brings)) (keeps-same (meaning g before))
