@@ -3,6 +3,8 @@ ghost use mathlib.Core.Bool.{true, false};
 ghost use mathlib.Core.Path.{_≡_};
 ghost use Prim.Native.Nat.{ℕ, _<_};
 ghost use lib.ListN.{getD, set};
+ghost use Rattle.std.specs.declared.result.Result.the-variants.{Ok};
+ghost use Rattle.provider.specs.declared.requests.Reply.the-variants.{Fresh, Unchanged};
 ghost use Rattle.history.specs.Cells.{free};
 ghost use Rattle.history.specs.Steps.{known-tag};
 ghost use Rattle.client.specs.Seeing.{cell-of, cells-of, state-of};
@@ -107,6 +109,49 @@ impl Slots {
         self.slot_mut(i).renew(interval, edition, spare)
     }
 
+    // The provider answered that what the slot holds is still good.
+    fn take_unchanged(
+        &mut self,
+        i: usize,
+        interval: Interval,
+        edition: Edition,
+        floor: &mut Edition,
+        spare: &mut Window,
+    ) -> Result<Edition, Refusal>
+        requires { ⌜ i < 16 ⌝ }
+        ensures { λ r. ⌜ Comes-to (take-reply (state-of (now (self .entry)) (now (floor .entry))) i interval (Ok (Unchanged edition)) (now (spare .entry))) (taken-report r i interval) (state-of (now (self .exit)) (now (floor .exit))) ⌝ }
+    {
+        if *floor > edition {
+            return Err(Refusal::BelowFloor { edition });
+        }
+        if !self.renew(i, interval, edition, spare) {
+            return Err(Refusal::Silent);
+        }
+        *floor = edition;
+        Ok(edition)
+    }
+
+    // The provider filled the window.
+    fn take_fresh(
+        &mut self,
+        i: usize,
+        interval: Interval,
+        version: Version,
+        floor: &mut Edition,
+        spare: &mut Window,
+    ) -> Result<Edition, Refusal>
+        requires { ⌜ i < 16 ⌝ }
+        ensures { λ r. ⌜ Comes-to (take-reply (state-of (now (self .entry)) (now (floor .entry))) i interval (Ok (Fresh (version .edition) (version .tag))) (now (spare .entry))) (taken-report r i interval) (state-of (now (self .exit)) (now (floor .exit))) ⌝ }
+    {
+        let edition = version.edition;
+        if edition < *floor {
+            return Err(Refusal::BelowFloor { edition });
+        }
+        self.install(i, version, spare);
+        *floor = version.edition;
+        Ok(edition)
+    }
+
     // What the provider replied to the slot's fetch: a window of an edition not below the floor is held from now on, and the floor is that edition.
     pub(crate) fn take(
         &mut self,
@@ -121,23 +166,15 @@ impl Slots {
     {
         match reply {
             Err(refusal) => Err(floored_by(*floor, refusal)),
-            Ok(Reply::Unchanged { edition }) => {
-                if edition < *floor {
-                    return Err(Refusal::BelowFloor { edition });
-                }
-                if !self.renew(i, interval, edition, spare) {
-                    return Err(Refusal::Silent);
-                }
-                *floor = edition;
-                Ok(edition)
-            }
+            Ok(Reply::Unchanged { edition }) => self.take_unchanged(
+                i,
+                interval,
+                edition,
+                floor,
+                spare,
+            ),
             Ok(Reply::Fresh { edition, tag }) => {
-                if edition < *floor {
-                    return Err(Refusal::BelowFloor { edition });
-                }
-                self.install(i, Version { edition, tag }, spare);
-                *floor = edition;
-                Ok(edition)
+                self.take_fresh(i, interval, Version { edition, tag }, floor, spare)
             }
         }
     }

@@ -21,14 +21,16 @@ impl Slot {
     fn query(&self, at: Instant) -> Result<Answer, Refusal>
         ensures { λ r. ⌜ ((s : State) → queried-copy s (at .0) (cell-of (now (self .entry)) .copy) ≡ answer-outcome r s) ⌝ }
     {
-        let Some(version) = self.held else {
-            return Err(Refusal::NotHeld);
-        };
-        let local = local_time(&self.window, at)?;
-        Ok(Answer {
-            edition: version.edition,
-            local,
-        })
+        match self.held {
+            None => Err(Refusal::NotHeld),
+            Some(version) => match local_time(&self.window, at) {
+                Ok(local) => Ok(Answer {
+                    edition: version.edition,
+                    local,
+                }),
+                Err(refusal) => Err(refusal),
+            },
+        }
     }
 }
 

@@ -7,7 +7,6 @@ use lib.IntN.{ℤ}
 use Rattle.std.specs.Of.Vec.{vec-items}
 use Rattle.std.specs.declared.option.Option.{Option}
 use Rattle.std.specs.declared.option.Option.the-variants.{None, Some}
-use Rattle.std.proofs.shelf.Results.{err-from-errBy}
 use Rattle.zone.specs.declared.windows.Window.{Window}
 use Rattle.zone.specs.Intervals.{has-instant}
 use Rattle.zone.specs.Refusals.{Outcome, answered, refused}
@@ -28,8 +27,7 @@ refused-too : (s : State) (t : ℤ) (v : Option Version) (x : Version) (w : Wind
 refused-too s t None x w n vs e h = let z : _≡_ {A = ℕ} 0 1 = cc in absurd (omega arith)
 refused-too s t (Some v) x w n vs e h = same-refusal (has-instant (w .interval) t) _ _ n vs h
 
-pub returns-in-Break-local : need.returns-in-Break-local
-returns-in-Break-local c s =
-    let p = err-from-errBy (c .from-residual .result) (c .from-residual .ensures .1) in
+pub returns-in-Err : need.returns-in-Err
+returns-in-Err c s =
     let slot = c .args .self .now in
-    rw (p .1, p .2) (refused-too s (c .args .at .0) (slot .held) (c .in-Some .version) (slot .window) _ _ (c .in-Some .is) (c .in-Break-local .ensures tt))
+    refused-too s (c .args .at .0) (slot .held) (c .in-Some .version) (slot .window) _ _ (c .in-Some .is) (c .in-Err .ensures tt)
