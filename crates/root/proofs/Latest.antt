@@ -14,6 +14,7 @@ use Rattle.std.specs.shelf.Text.{sameBytes}
 use Rattle.std.specs.declared.option.Option.{Option}
 use Rattle.std.specs.declared.option.Option.the-variants.{None, Some}
 use Rattle.std.proofs.shelf.Equals.{sameBytes-decides}
+use Rattle.std.proofs.shelf.Lists.{take-all}
 use Rattle.std.proofs.shelf.Sums.{folded-more}
 use Rattle.std.proofs.shelf.Tests.{cases-bool}
 use Rattle.std.proofs.shelf.Ways.{tells}
@@ -94,6 +95,16 @@ pages-in log zero n l = refl
 pages-in log (suc e) n l =
     let s : (leb 1 (suc e) && leb (suc e) (length log)) ≡ true = grind (arith, tells) in
     rw s
+
+-- the page of the last edition
+pub pages-last : (log : List Publication) (count : ℕ) (n : Name) → count ≡ length log → pages log count n ≡ mapped page (latest n log)
+pages-last log count n c = pages-in log count n (omega arith) ∙ ap (λ xs. mapped page (latest n xs)) (take-all count log (omega arith))
+
+-- the latest publication of a name stands in the log
+pub latest-stands : (log : List Publication) (n : Name) (p : Publication) → latest n log ≡ Some p → (j : ℕ) × (j < length log) × (at log j ≡ p)
+latest-stands log n p q =
+    let f = latest-found log n (length log) p (omega arith) (ap (latest n) (take-all (length log) log (omega arith)) ∙ q) in
+    (f .0, f .1 .earlier, f .2)
 
 pub pages-past : (log : List Publication) (e : ℕ) (n : Name) → length log < e → pages log e n ≡ None
 pages-past log e n l =

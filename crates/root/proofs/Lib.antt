@@ -1,5 +1,7 @@
 pub mod Latest
 pub mod Tagging
-pub mod Adding
+pub mod Grown
 pub mod Places
 pub mod Example
+pub mod Views
+pub mod Steps

@@ -53,10 +53,8 @@ impl Root {
         match latest_place(self.entries.as_slice(), name) {
             None => number,
             Some(i) => {
-                let entry = self.entries[i];
-                let stored = self.rows.as_slice();
-                if same_rows(&stored[entry.start..entry.start + entry.len], rows) {
-                    entry.tag
+                if same_rows(self.rows_of(i), rows) {
+                    self.entries[i].tag
                 } else {
                     number
                 }

@@ -26,10 +26,8 @@ impl Root {
         match latest_place(self.entries.as_slice(), &request.name) {
             None => Err(Refusal::NoPage { edition }),
             Some(i) => {
-                let entry = self.entries[i];
-                let rows = self.rows.as_slice();
-                let table = &rows[entry.start..entry.start + entry.len];
-                answer_rows(ERA, table, edition, entry.tag, request, place)
+                let tag = self.entries[i].tag;
+                answer_rows(ERA, self.rows_of(i), edition, tag, request, place)
             }
         }
     }

@@ -1,13 +1,16 @@
-// The latest entry of a name.
+// The latest entry of a name, and the rows of an entry.
 ghost use mathlib.Core.Path.{_≡_};
 ghost use mathlib.Core.List.{List};
 ghost use Prim.Native.Nat.{_<_};
 ghost use lib.ListN.{getD, length};
+ghost use Rattle.std.specs.Of.Vec.{vec-items, vec-len};
 ghost use Rattle.std.specs.Options.{Cases, mapped};
 ghost use Rattle.zone.specs.declared.rows.Row.{Row};
 ghost use Rattle.root.specs.Logs.{latest, log, no-entry, publication};
 use super::entries::Entry;
+use super::roots::Root;
 use zone::names::Name;
+use zone::rows::Row;
 
 // The place of the latest entry of the name.
 pub(crate) fn latest_place(entries: &[Entry], name: &Name) -> Option<usize>
@@ -21,4 +24,17 @@ pub(crate) fn latest_place(entries: &[Entry], name: &Name) -> Option<usize>
         }
     }
     place
+}
+
+impl Root {
+    // The rows of the entry at place i.
+    pub(crate) fn rows_of(&self, i: usize) -> &[Row]
+        requires { ⌜ i < vec-len (now self .entries) ⌝ }
+        ensures { λ r. ⌜ now r ≡ publication (vec-items (now (self .entry) .rows)) (getD (vec-items (now (self .entry) .entries)) i no-entry) .rows ⌝ }
+    {
+        let entry = self.entries[i];
+        let start = entry.start;
+        let end = entry.start + entry.len;
+        &self.rows.as_slice()[start..end]
+    }
 }
