@@ -61,13 +61,9 @@ table-held log n p o l =
 pub tag-none : (s : Root) (n : Name) (rows : List Row) (number : ℕ) → number ≡ vec-len (s .entries) → latest n (log-of s) ≡ None → number + 1 ≡ tag-for (log-of s) n rows
 tag-none s n rows number h l = ap (λ x. x + 1) (h ∙ log-count s) ∙ sym (ap (tag-after (length (log-of s) + 1) rows) l)
 
-module _ (s : Root) (n : Name) (rows stored : List Row) (p : Publication) (l : latest n (log-of s) ≡ Some p) (r : stored ≡ p .rows) where
-  pub tag-old : true ≡ same-rows stored rows → p .tag ≡ tag-for (log-of s) n rows
-  tag-old y = ap (λ b. cond b (p .tag) (length (log-of s) + 1)) (y ∙ ap (λ x. same-rows x rows) r) ∙ sym (ap (tag-after (length (log-of s) + 1) rows) l)
-
-  pub tag-new : (number : ℕ) → number ≡ vec-len (s .entries) → false ≡ same-rows stored rows → number + 1 ≡ tag-for (log-of s) n rows
-  tag-new number h f =
-      ap (λ x. x + 1) (h ∙ log-count s) ∙ (ap (λ b. cond b (p .tag) (length (log-of s) + 1)) (f ∙ ap (λ x. same-rows x rows) r) ∙ sym (ap (tag-after (length (log-of s) + 1) rows) l))
+pub tag-some : (s : Root) (n : Name) (rows stored : List Row) (p : Publication) (same : Bool) (tag number : ℕ) → latest n (log-of s) ≡ Some p → stored ≡ p .rows → same ≡ same-rows stored rows → tag ≡ p .tag → number ≡ vec-len (s .entries) → cond same tag (number + 1) ≡ tag-for (log-of s) n rows
+tag-some s n rows stored p same tag number l r b t h =
+    ap (λ x. cond x tag (number + 1)) (b ∙ ap (λ x. same-rows x rows) r) ∙ (ap (λ x. cond (same-rows (p .rows) rows) x (number + 1)) t ∙ (ap (λ x. cond (same-rows (p .rows) rows) (p .tag) (x + 1)) (h ∙ log-count s) ∙ sym (ap (tag-after (length (log-of s) + 1) rows) l)))
 
 -- the rows of an entry lie in the storage
 abbrev pub Inside : List Entry → List Row → Type 0

@@ -1,6 +1,6 @@
 // Publications put into a root's log.
-ghost use mathlib.Core.Bool.{_&&_};
-ghost use mathlib.Core.List.{_++_};
+ghost use mathlib.Core.Bool.{_&&_, cond};
+ghost use mathlib.Core.List.{[], _++_, _∷_};
 ghost use mathlib.Core.Path.{_≡_};
 ghost use Prim.Native.Nat.{_+_, _<_, _≤_};
 ghost use lib.Dec.{ltb};
@@ -33,6 +33,23 @@ fn store(rows: &[Row], storage: &mut Vec<Row>)
     }
 }
 
+// Puts the entry after the others.
+fn keep(entry: Entry, entries: &mut Vec<Entry>)
+    requires { ⌜ vec-len (now entries) < vec-cap (now entries) ⌝ }
+    ensures items { λ _. ⌜ vec-items (now (entries .exit)) ≡ vec-items (now (entries .entry)) ++ entry ∷ [] ⌝ }
+    ensures len { λ _. ⌜ vec-len (now (entries .exit)) ≡ vec-len (now (entries .entry)) + 1 ⌝ }
+    ensures capacity { λ _. ⌜ vec-cap (now (entries .exit)) ≡ vec-cap (now (entries .entry)) ⌝ }
+{
+    entries.push_reserved(entry);
+}
+
+// The tag before where the rows are the same, else the publication's number.
+fn tag_of(same: bool, before: Tag, number: Tag) -> Tag
+    ensures { λ r. ⌜ r ≡ cond same before number ⌝ }
+{
+    if same { before } else { number }
+}
+
 impl Root {
     // Whether an entry, so many rows and an edition's number are unused.
     pub(crate) fn takes(&self, rows: usize) -> bool
@@ -53,12 +70,22 @@ impl Root {
         match latest_place(self.entries.as_slice(), name) {
             None => number,
             Some(i) => {
-                if same_rows(self.rows_of(i), rows) {
-                    self.entries[i].tag
-                } else {
-                    number
-                }
+                let same = same_rows(self.rows_of(i), rows);
+                tag_of(same, self.entries[i].tag, number)
             }
+        }
+    }
+
+    // The entry of rows that are published next for the name.
+    fn next_entry(&self, name: Name, rows: &[Row]) -> Entry
+        requires { ⌜ vec-len (now self .entries) < last-edition ⌝ }
+        ensures { λ r. ⌜ r ≡ record { name = name; start = vec-len (now (self .entry) .rows); len = length (now (rows .entry)); tag = tag-for (log-of (now (self .entry))) name (now (rows .entry)) } ⌝ }
+    {
+        Entry {
+            name,
+            start: self.rows.len(),
+            len: rows.len(),
+            tag: self.next_tag(&name, rows),
         }
     }
 
@@ -71,14 +98,9 @@ impl Root {
         ensures added { λ r. ⌜ Added (now (self .entry)) name (now (table .entry)) (now (self .exit)) ⌝ }
     {
         let rows = table.rows.as_slice();
-        let entry = Entry {
-            name,
-            start: self.rows.len(),
-            len: rows.len(),
-            tag: self.next_tag(&name, rows),
-        };
+        let entry = self.next_entry(name, rows);
         store(rows, &mut self.rows);
-        self.entries.push_reserved(entry);
+        keep(entry, &mut self.entries);
         self.entries.len() as u16
     }
 }

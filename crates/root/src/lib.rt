@@ -7,3 +7,5 @@ pub mod looking;
 pub mod making;
 pub mod providing;
 pub mod roots;
+#[cfg(test)]
+mod tests;

@@ -5,12 +5,25 @@ ghost use Prim.Native.Nat.{_<_};
 ghost use lib.ListN.{getD, length};
 ghost use Rattle.std.specs.Of.Vec.{vec-items, vec-len};
 ghost use Rattle.std.specs.Options.{Cases, mapped};
+ghost use Rattle.std.specs.declared.option.Option.the-variants.{Some};
 ghost use Rattle.zone.specs.declared.rows.Row.{Row};
 ghost use Rattle.root.specs.Logs.{latest, log, no-entry, publication};
 use super::entries::Entry;
 use super::roots::Root;
 use zone::names::Name;
 use zone::rows::Row;
+
+// The place of the entry, if it is of the name, else the place at hand.
+fn newer(place: Option<usize>, i: usize, entry: &Entry, name: &Name) -> Option<usize>
+    ensures named { λ r. ⌜ (now (entry .entry) .name ≡ now (name .entry) → r ≡ Some i) ⌝ }
+    ensures other { λ r. ⌜ ((now (entry .entry) .name ≡ now (name .entry) → ⊥) → r ≡ place) ⌝ }
+{
+    if entry.name.same(name) {
+        Some(i)
+    } else {
+        place
+    }
+}
 
 // The place of the latest entry of the name.
 pub(crate) fn latest_place(entries: &[Entry], name: &Name) -> Option<usize>
@@ -19,9 +32,7 @@ pub(crate) fn latest_place(entries: &[Entry], name: &Name) -> Option<usize>
 {
     let mut place = None;
     for (i, entry) in entries.iter().enumerate() {
-        if entry.name.same(name) {
-            place = Some(i);
-        }
+        place = newer(place, i, entry, name);
     }
     place
 }
