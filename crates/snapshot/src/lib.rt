@@ -1,0 +1,8 @@
+// The snapshot: a provider of one edition that never changes.
+pub mod answering;
+pub mod deciding;
+pub mod looking;
+pub mod making;
+pub mod providing;
+pub mod snapshots;
+pub mod zones;
