@@ -1,7 +1,7 @@
 // Rows and names, compared.
 ghost use mathlib.Core.Path.{_≡_};
 ghost use Rattle.std.specs.Orderings.{Decides};
-ghost use Rattle.zone.specs.Comparing.{before, same-rows as the-same};
+ghost use Rattle.zone.specs.Comparing.{before, Comparisons-stand, same-rows as the-same};
 use super::names::Name;
 use super::rows::Row;
 use super::rows::RowPartialEq;
@@ -40,3 +40,8 @@ impl Name {
         false
     }
 }
+
+/// Byte order is strict, and of two lists of bytes that differ one comes before the other; rows are tested the same exactly when they are.
+pub fn comparisons_stand()
+    ensures { λ _. ⌜ Comparisons-stand ⌝ }
+{}
