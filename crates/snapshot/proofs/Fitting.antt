@@ -67,12 +67,12 @@ pub rise-none : (zones : List Zone) (i : ℕ) → 1 ≤ i → length zones ≤ i
 rise-none zones i s l = short (drop (i - 1) zones) (simp length-drop (omega arith))
 
 -- what a good snapshot keeps
-pub record Good (edition : ℕ) (span : Interval) (zones : List Zone) : Type 0 where
+pub record Kept (edition : ℕ) (span : Interval) (zones : List Zone) : Type 0 where
   pub some : 1 ≤ edition
   pub in-era : within span era ≡ true
   pub fit : all-fit edition span zones ≡ true
 
-pub good-from : (edition : ℕ) (span : Interval) (zones : List Zone) → is-good edition span zones ≡ true → Good edition span zones
+pub good-from : (edition : ℕ) (span : Interval) (zones : List Zone) → is-good edition span zones ≡ true → Kept edition span zones
 good-from edition span zones h =
     let few = leb 1 (length zones) && leb (length zones) most-zones in
     let rest = all-fit edition span zones && rising zones in

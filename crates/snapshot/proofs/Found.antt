@@ -22,7 +22,7 @@ use Rattle.snapshot.specs.declared.zones.Zone.{Zone}
 use Rattle.snapshot.specs.Zones.{fits, all-fit, page, page-of}
 use Rattle.snapshot.proofs.Fitting.{zone-next}
 
-bytes-no : (a b : List ℕ) → (a ≡ b → ⊥) → sameBytes a b ≡ false
+pub bytes-no : (a b : List ℕ) → (a ≡ b → ⊥) → sameBytes a b ≡ false
 bytes-no a b n = elim (cases-bool (sameBytes a b)) [ inl y ↦ absurd (n (sameBytes-decides a b .0 y)) | inr f ↦ f ]
 
 -- the search, zone by zone

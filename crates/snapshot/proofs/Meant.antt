@@ -26,7 +26,7 @@ use Rattle.provider.specs.Fetching.{Answer, inside-answer, page-answer, edition
 use Rattle.provider.specs.Meaning.{Page, Meaning, Paged, Sound, last-edition}
 use Rattle.snapshot.specs.declared.zones.Zone.{Zone}
 use Rattle.snapshot.specs.Zones.{fits, page, page-of}
-use Rattle.snapshot.proofs.Fitting.{Good, decides-interval}
+use Rattle.snapshot.proofs.Fitting.{Kept, decides-interval}
 use Rattle.snapshot.proofs.Found.{page-from}
 
 -- the facts of a zone that fits
@@ -81,7 +81,7 @@ one-page good edition zones e f n p q a b =
     let same : p ≡ q = cc in
     ap (λ (x : Page). x .rows) same
 
-pub sound-meant : (good : Bool) (edition : ℕ) (span : Interval) (zones : List Zone) → edition ≤ last-edition → (good ≡ true → Good edition span zones) → Sound (meant good edition span zones)
+pub sound-meant : (good : Bool) (edition : ℕ) (span : Interval) (zones : List Zone) → edition ≤ last-edition → (good ≡ true → Kept edition span zones) → Sound (meant good edition span zones)
 sound-meant true edition span zones l g =
     record {
       in-era = g refl .in-era;

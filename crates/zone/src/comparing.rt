@@ -1,5 +1,6 @@
 // Rows and names, compared.
 ghost use mathlib.Core.Path.{_≡_};
+ghost use lib.Dec.{ltb};
 ghost use Rattle.std.specs.Orderings.{Decides};
 ghost use Rattle.zone.specs.Comparing.{before, Comparisons-stand, same-rows as the-same};
 use super::names::Name;
@@ -27,6 +28,12 @@ pub fn same_rows(a: &[Row], b: &[Row]) -> bool
     true
 }
 
+fn is_smaller(a: u8, b: u8) -> bool
+    ensures { λ r. ⌜ r ≡ ltb a b ⌝ }
+{
+    a < b
+}
+
 impl Name {
     /// Whether this name comes strictly before the other in byte order.
     pub fn is_before(&self, other: &Name) -> bool
@@ -34,7 +41,7 @@ impl Name {
     {
         for i in 0..48usize {
             if self.bytes[i] != other.bytes[i] {
-                return self.bytes[i] < other.bytes[i];
+                return is_smaller(self.bytes[i], other.bytes[i]);
             }
         }
         false
