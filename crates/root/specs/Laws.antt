@@ -33,6 +33,7 @@ pub record Tags-are-first-numbers : Type 0 where
   pub within : (log : List Publication) (k : ℕ) → In-order log → k < length log → (1 ≤ at log k .tag) × (at log k .tag ≤ k + 1)
   pub one-table : (log : List Publication) (k j : ℕ) → In-order log → k < length log → j < length log → at log k .name ≡ at log j .name → at log k .tag ≡ at log j .tag → at log k .rows ≡ at log j .rows
 
+-- the pages and the tags of every log
 pub record Log-stands : Type 0 where
   pub pages : Pages-are-latest
   pub tags : Tags-are-first-numbers

@@ -29,10 +29,11 @@ publication storage e = record { name = e .name; tag = e .tag; rows = take (e .l
 abbrev pub log : List Entry → List Row → List Publication
 log entries storage = map (publication storage) entries
 
--- the entry, and the publication, that stand where there is none
+-- the entry that stands where there is none
 abbrev pub no-entry : Entry
 no-entry = record { name = record { bytes = [] }; start = 0; len = 0; tag = 0 }
 
+-- the publication that stands where there is none
 abbrev pub nothing : Publication
 nothing = record { name = record { bytes = [] }; tag = 0; rows = [] }
 

@@ -7,6 +7,7 @@ use super::names::Name;
 use super::rows::Row;
 use super::rows::RowPartialEq;
 
+// Whether the two rows are the same.
 fn is_same_row(a: Row, b: Row) -> bool
     ensures { λ r. ⌜ Decides r (a ≡ b) ⌝ }
 {
@@ -28,6 +29,7 @@ pub fn same_rows(a: &[Row], b: &[Row]) -> bool
     true
 }
 
+// Whether the first byte is smaller.
 fn is_smaller(a: u8, b: u8) -> bool
     ensures { λ r. ⌜ r ≡ ltb a b ⌝ }
 {
