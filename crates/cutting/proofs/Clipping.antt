@@ -203,6 +203,10 @@ cuts-agree of rows to c w =
       again = λ inner h. let q = within-parts inner to h in cut-cut rows (of .start) (of .end) (to .start) (to .end) (inner .start) (inner .end) r (p .0) (q .0) (q .1) (q .2);
     }
 
+-- an interval that rises lies in itself
+pub within-itself : (i o : Interval) → within i o ≡ true → within i i ≡ true
+within-itself i o h = let p = within-parts i o h in grind (arith, ints)
+
 -- an interval inside of one inside
 pub within-trans : (i o p : Interval) → within i o ≡ true → within o p ≡ true → within i p ≡ true
 within-trans i o p h k =

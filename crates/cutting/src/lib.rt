@@ -4,3 +4,5 @@ pub mod filling;
 pub mod laws;
 pub mod locals;
 pub mod look;
+#[cfg(test)]
+mod tests;

@@ -1,2 +1,4 @@
 pub mod Checks
 pub mod Pages
+pub mod Layers
+pub mod Held

@@ -1,6 +1,6 @@
 -- What a fetch comes to. Assumes nothing.
 use mathlib.Core.Path.{_≡_}
-use mathlib.Core.Bool.{cond}
+use mathlib.Core.Bool.{Bool, cond, _&&_}
 use mathlib.Core.List.{List, [], _∷_}
 use Prim.Native.Nat.{ℕ}
 use lib.Dec.{eqb, leb}
@@ -32,6 +32,10 @@ pub data Answer : Type 0 where
 -- the first three checks: 1 the name, 2 the interval in the era, 3 inside the span; then what comes after them
 abbrev pub checked : {X : Type 0} → Request → Interval → Outcome X → Outcome X
 checked q span next = cond (is-name (q .name .bytes)) (cond (within (q .interval) era) (cond (within (q .interval) span) next (refused 3 [])) (refused 2 [])) (refused 1 [])
+
+-- whether the request passes them
+abbrev pub passes : Request → Interval → Bool
+passes q span = is-name (q .name .bytes) && (within (q .interval) era && within (q .interval) span)
 
 -- what a page of edition e answers: 6 where its cut has too many rows
 abbrev pub page-answer : ℕ → Request → Page → Outcome Answer

@@ -9,21 +9,18 @@ use lib.ListN.{length, drop, getD}
 use Rattle.std.specs.Orderings.{Decides}
 use Rattle.std.proofs.shelf.Lists.{drop-more, drop-all, length-drop}
 use Rattle.std.proofs.shelf.Tests.{and-parts, leb-true}
-use Rattle.std.proofs.shelf.Ways.{same-from-decides, decides-and}
+use Rattle.std.proofs.shelf.Ways.{same-from-decides, decides-like}
 use Rattle.zone.specs.declared.rows.Interval.{Interval}
 use Rattle.zone.specs.Comparing.{before}
 use Rattle.zone.specs.Intervals.{era, same-interval, within}
 use Rattle.zone.specs.Names.{is-name}
-use Rattle.zone.proofs.Testing.{decides-same}
+use Rattle.zone.proofs.Testing.{decides-interval, interval-from}
 use Rattle.snapshot.specs.declared.zones.Zone.{Zone}
 use Rattle.snapshot.specs.Zones.{fits, all-fit, before-next, rising, is-good, most-zones}
 
-pub decides-interval : (i o : Interval) → Decides (same-interval i o) ((i .start ≡ o .start) × (i .end ≡ o .end))
-decides-interval i o = decides-and _ _ (decides-same (i .start) (o .start)) (decides-same (i .end) (o .end))
-
 -- the test of an interval is that of the definition
 pub over-is : (i o : Interval) (r : Bool) → Decides r ((i .start ≡ o .start) × (i .end ≡ o .end)) → r ≡ same-interval i o
-over-is i o r d = same-from-decides r (same-interval i o) d (decides-interval i o)
+over-is i o r d = same-from-decides r (same-interval i o) (decides-like r (λ h. interval-from i o (h .0) (h .1)) (λ q. (ap (λ (x : Interval). x .start) q, ap (λ (x : Interval). x .end) q)) d) (decides-interval i o)
 
 -- a read of a zone, as it stands in the rest of the list
 pub zone-next : (zones : List Zone) (i : ℕ) (z : Zone) → i < length zones → z ≡ getD zones i z → drop i zones ≡ z ∷ drop (i + 1) zones

@@ -20,13 +20,13 @@ use Rattle.zone.specs.Intervals.{era, same-interval, within}
 use Rattle.zone.specs.Names.{is-name}
 use Rattle.zone.specs.Refusals.{Outcome, answered, refused}
 use Rattle.zone.specs.Rows.{Covers, table-rows}
-use Rattle.zone.proofs.Testing.{interval-from}
+use Rattle.zone.proofs.Testing.{decides-interval}
 use Rattle.provider.specs.declared.requests.Request.{Request}
 use Rattle.provider.specs.Fetching.{Answer, inside-answer, page-answer, edition-answer, turn-answer}
 use Rattle.provider.specs.Meaning.{Page, Meaning, Paged, Sound, last-edition}
 use Rattle.snapshot.specs.declared.zones.Zone.{Zone}
 use Rattle.snapshot.specs.Zones.{fits, page, page-of}
-use Rattle.snapshot.proofs.Fitting.{Kept, decides-interval}
+use Rattle.snapshot.proofs.Fitting.{Kept}
 use Rattle.snapshot.proofs.Found.{page-from}
 
 -- the facts of a zone that fits
@@ -41,8 +41,7 @@ fits-from edition span z h =
     let a = and-parts (is-name (z .name .bytes)) ((leb 1 (z .tag) && leb (z .tag) edition) && over) h in
     let b = and-parts (leb 1 (z .tag) && leb (z .tag) edition) over (a .1) in
     let c = and-parts (leb 1 (z .tag)) (leb (z .tag) edition) (b .0) in
-    let d = decides-interval (z .window .interval) span .0 (b .1) in
-    record { tagged = leb-true 1 (z .tag) (c .0); tag-last = leb-true (z .tag) edition (c .1); over = interval-from (z .window .interval) span (d .0) (d .1) }
+    record { tagged = leb-true 1 (z .tag) (c .0); tag-last = leb-true (z .tag) edition (c .1); over = decides-interval (z .window .interval) span .0 (b .1) }
 
 covers : (w : Window) → Covers (w .interval) (vec-items (w .rows))
 covers w = record { begins = w .begins; joined = w .joined; ends = w .ends; small = w .small }

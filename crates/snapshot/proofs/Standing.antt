@@ -23,12 +23,11 @@ use Rattle.zone.specs.Comparing.{before}
 use Rattle.zone.specs.Intervals.{era, same-interval, within}
 use Rattle.zone.specs.Names.{is-name}
 use Rattle.zone.proofs.Compared.{before-never, before-chain}
-use Rattle.zone.proofs.Testing.{decides-leb, interval-from}
+use Rattle.zone.proofs.Testing.{decides-interval, decides-leb}
 use Rattle.provider.specs.Meaning.{Page}
 use Rattle.snapshot.specs.declared.zones.Zone.{Zone}
 use Rattle.snapshot.specs.Laws.{Good, Snapshots-stand}
 use Rattle.snapshot.specs.Zones.{fits, all-fit, before-next, rising, is-good, most-zones, page, page-of}
-use Rattle.snapshot.proofs.Fitting.{decides-interval}
 use Rattle.snapshot.proofs.Found.{bytes-no}
 
 abbrev Ahead : Zone → Zone → Type 0
@@ -60,11 +59,8 @@ rise-to (z ∷ y ∷ ys) h =
 abbrev Fit : ℕ → Interval → Zone → Type 0
 Fit e i z = (is-name (z .name .bytes) ≡ true) × (((1 ≤ z .tag) × (z .tag ≤ e)) × (z .window .interval ≡ i))
 
-decides-over : (i o : Interval) → Decides (same-interval i o) (i ≡ o)
-decides-over i o = decides-like (same-interval i o) (λ h. interval-from i o (h .0) (h .1)) (λ q. (ap (λ (x : Interval). x .start) q, ap (λ (x : Interval). x .end) q)) (decides-interval i o)
-
 decides-fits : (e : ℕ) (i : Interval) (z : Zone) → Decides (fits e i z) (Fit e i z)
-decides-fits e i z = decides-and (is-name (z .name .bytes)) ((leb 1 (z .tag) && leb (z .tag) e) && same-interval (z .window .interval) i) (λ h. h, λ h. h) (decides-and (leb 1 (z .tag) && leb (z .tag) e) (same-interval (z .window .interval) i) (decides-and (leb 1 (z .tag)) (leb (z .tag) e) (decides-leb 1 (z .tag)) (decides-leb (z .tag) e)) (decides-over (z .window .interval) i))
+decides-fits e i z = decides-and (is-name (z .name .bytes)) ((leb 1 (z .tag) && leb (z .tag) e) && same-interval (z .window .interval) i) (λ h. h, λ h. h) (decides-and (leb 1 (z .tag) && leb (z .tag) e) (same-interval (z .window .interval) i) (decides-and (leb 1 (z .tag)) (leb (z .tag) e) (decides-leb 1 (z .tag)) (decides-leb (z .tag) e)) (decides-interval (z .window .interval) i))
 
 decides-all : (e : ℕ) (i : Interval) (zs : List Zone) → Decides (all-fit e i zs) (All (Fit e i) zs)
 decides-all e i zs = decides-by-and (fits e i) (Fit e i) (all-fit e i) (decides-fits e i) refl (λ _ _. refl) zs

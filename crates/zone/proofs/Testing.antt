@@ -63,10 +63,15 @@ interval-from i o s e =
     let second : ℤ → Interval = λ b. record { start = o .start; end = b } in
     ap first s ∙ ap second e
 
+pub decides-interval : (i o : Interval) → Decides (same-interval i o) (i ≡ o)
+decides-interval i o =
+    decides-like (same-interval i o) (λ h. interval-from i o (h .0) (h .1)) (λ q. (ap (λ (x : Interval). x .start) q, ap (λ (x : Interval). x .end) q))
+    (decides-and _ _ (decides-same (i .start) (o .start)) (decides-same (i .end) (o .end)))
+
 pub decides-era-table : (i : Interval) (rows : List Row) → Decides (is-era-table i rows) ((i ≡ era) × Sound table-rows era rows)
 decides-era-table i rows =
-    decides-like (is-era-table i rows) (λ h. let q = interval-from i era (h .0 .0) (h .0 .1) in (q, subst (λ x. Sound table-rows x rows) q (h .1))) (λ h. ((ap (λ (x : Interval). x .start) (h .0), ap (λ (x : Interval). x .end) (h .0)), subst (λ x. Sound table-rows x rows) (sym (h .0)) (h .1)))
-    (decides-and _ _ (decides-and _ _ (decides-same (i .start) (era .start)) (decides-same (i .end) (era .end))) (decides-table i rows))
+    decides-like (is-era-table i rows) (λ h. (h .0, subst (λ x. Sound table-rows x rows) (h .0) (h .1))) (λ h. (h .0, subst (λ x. Sound table-rows x rows) (sym (h .0)) (h .1)))
+    (decides-and _ _ (decides-interval i era) (decides-table i rows))
 
 pub tables-stand : Tables-stand
 tables-stand = record { tables = decides-table; over-era = decides-era-table }
@@ -74,9 +79,7 @@ tables-stand = record { tables = decides-table; over-era = decides-era-table }
 -- with the interval tested, only the table is left to test
 pub era-table-yes : (i : Interval) (rows : List Row) (r : Bool) → (i .start ≡ era .start) × (i .end ≡ era .end) → Decides r (Sound table-rows i rows) → r ≡ is-era-table i rows
 era-table-yes i rows r s d =
-    let t = same-from-decides r (is-table i rows) d (decides-table i rows) in
-    let q = decides-and (same-number (i .start) (era .start)) (same-number (i .end) (era .end)) (decides-same (i .start) (era .start)) (decides-same (i .end) (era .end)) .1 s in
-    t ∙ sym (ap (λ b. b && is-table i rows) q)
+    same-from-decides r (is-table i rows) d (decides-table i rows) ∙ sym (ap (λ b. b && is-table i rows) (decides-interval i era .1 (interval-from i era (s .0) (s .1))))
 
 pub era-table-no : (i : Interval) (rows : List Row) → ((i .start ≡ era .start) × (i .end ≡ era .end) → ⊥) → is-era-table i rows ≡ false
-era-table-no i rows n = and-left (same-interval i era) (is-table i rows) (elim (cases-bool (same-interval i era)) [ inl y ↦ absurd (n (decides-and _ _ (decides-same (i .start) (era .start)) (decides-same (i .end) (era .end)) .0 y)) | inr f ↦ f ])
+era-table-no i rows n = and-left (same-interval i era) (is-table i rows) (elim (cases-bool (same-interval i era)) [ inl y ↦ absurd (let q = decides-interval i era .0 y in n (ap (λ (x : Interval). x .start) q, ap (λ (x : Interval). x .end) q)) | inr f ↦ f ])

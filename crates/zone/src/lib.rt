@@ -9,4 +9,6 @@ pub mod naming;
 pub mod numbers;
 pub mod refusals;
 pub mod rows;
+#[cfg(test)]
+mod tests;
 pub mod windows;
