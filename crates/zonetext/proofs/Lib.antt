@@ -1,0 +1,14 @@
+pub mod Closing
+pub mod Cuts
+pub mod Dated
+pub mod Turns
+pub mod Counting
+pub mod Valued
+pub mod Keeping
+pub mod Padding
+pub mod Gluing
+pub mod Moves
+pub mod Only
+pub mod Back
+pub mod Fitting
+pub mod Telling

@@ -1,0 +1,4 @@
+pub mod Placing
+pub mod Rowing
+pub mod Framing
+pub mod Wholes
