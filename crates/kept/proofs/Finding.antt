@@ -1,0 +1,47 @@
+-- The place of the first that passes a test. Assumes nothing.
+use mathlib.Core.Path.{_≡_, refl, sym, ap, _∙_}
+use mathlib.Core.Bool.{Bool, true, false}
+use mathlib.Core.List.{List, [], _∷_, map}
+use Prim.Native.Nat.{ℕ, zero, suc, _+_, _<_, _≤_}
+use native.Mathlib.Omega.{arith}
+use lib.ListN.{length, getD, set}
+use Rattle.std.specs.Of.Vec.{vec-items, vec-len}
+use Rattle.std.specs.Options.{mapped}
+use Rattle.std.specs.declared.option.Option.{Option}
+use Rattle.std.specs.declared.option.Option.the-variants.{None, Some}
+use Rattle.std.proofs.shelf.Lists.{getD-map, length-map, map-set}
+use Rattle.kept.specs.declared.places.Place.{Place}
+use Rattle.kept.specs.declared.places.Places.{Places}
+use Rattle.kept.specs.Keeping.{Kept, first-place, kept, kept-in}
+
+pub first-found : (test : Option Kept → Bool) (ps : List (Option Kept)) (i : ℕ) → ((k : ℕ) → k < i → test (getD ps k None) ≡ false) → i < length ps → test (getD ps i None) ≡ true → first-place test ps ≡ Some i
+first-found test [] i before l h = absurd (omega arith)
+first-found test (p ∷ ps) zero before l h = rw h
+first-found test (p ∷ ps) (suc i) before l h =
+    let ih = first-found test ps i (λ k m. before (suc k) (omega arith)) (omega arith) h in
+    rw (before 0 (omega arith)) (ap (mapped suc) ih)
+
+pub first-none : (test : Option Kept → Bool) (ps : List (Option Kept)) → ((k : ℕ) → k < length ps → test (getD ps k None) ≡ false) → first-place test ps ≡ None
+first-none test [] all = refl
+first-none test (p ∷ ps) all =
+    let ih = first-none test ps (λ k m. all (suc k) (omega arith)) in
+    rw (all 0 (omega arith)) (ap (mapped suc) ih)
+
+-- what is kept at a number is what its place keeps
+pub kept-there : (s : Places) (i : ℕ) (place : Place) → i < 8 → place ≡ getD (vec-items (s .places)) i place → getD (kept s) i None ≡ kept-in place
+kept-there s i place l h = getD-map kept-in (vec-items (s .places)) i place None (omega (arith, s .places .ok .0, s .all)) ∙ ap kept-in (sym h)
+
+pub kept-length : (s : Places) → length (kept s) ≡ 8
+kept-length s = length-map (vec-items (s .places)) kept-in ∙ omega (arith, s .places .ok .0, s .all)
+
+-- one place of a search: the test at the place there is the test at what it keeps
+pub tested-there : (test : Option Kept → Bool) (s : Places) (i : ℕ) (place : Place) (b : Bool) → i < 8 → place ≡ getD (vec-items (s .places)) i place → b ≡ test (kept-in place) → test (getD (kept s) i None) ≡ b
+tested-there test s i place b l h t = ap test (kept-there s i place l h) ∙ sym t
+
+-- a place is put in the stead of another
+pub kept-changed : (s : Places) (i : ℕ) (new : Place) → map kept-in (set (vec-items (s .places)) i new) ≡ set (kept s) i (kept-in new)
+kept-changed s i new = map-set kept-in (vec-items (s .places)) i new
+
+-- the same, where what is kept is made of the old one
+pub kept-made : (s : Places) (i : ℕ) (old new : Place) (f : Option Kept → Option Kept) → i < 8 → old ≡ getD (vec-items (s .places)) i old → kept-in new ≡ f (kept-in old) → map kept-in (set (vec-items (s .places)) i new) ≡ set (kept s) i (f (getD (kept s) i None))
+kept-made s i old new f l h e = kept-changed s i new ∙ ap (set (kept s) i) (e ∙ ap f (sym (kept-there s i old l h)))
