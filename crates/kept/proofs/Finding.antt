@@ -12,7 +12,8 @@ use Rattle.std.specs.declared.option.Option.the-variants.{None, Some}
 use Rattle.std.proofs.shelf.Lists.{getD-map, length-map, map-set}
 use Rattle.kept.specs.declared.places.Place.{Place}
 use Rattle.kept.specs.declared.places.Places.{Places}
-use Rattle.kept.specs.Keeping.{Kept, first-place, kept, kept-in}
+use Rattle.zone.specs.declared.names.Name.{Name}
+use Rattle.kept.specs.Keeping.{Kept, first-place, kept, kept-at, kept-for, kept-in, place-of}
 
 pub first-found : (test : Option Kept → Bool) (ps : List (Option Kept)) (i : ℕ) → ((k : ℕ) → k < i → test (getD ps k None) ≡ false) → i < length ps → test (getD ps i None) ≡ true → first-place test ps ≡ Some i
 first-found test [] i before l h = absurd (omega arith)
@@ -30,6 +31,10 @@ first-none test (p ∷ ps) all =
 -- what is kept at a number is what its place keeps
 pub kept-there : (s : Places) (i : ℕ) (place : Place) → i < 8 → place ≡ getD (vec-items (s .places)) i place → getD (kept s) i None ≡ kept-in place
 kept-there s i place l h = getD-map kept-in (vec-items (s .places)) i place None (omega (arith, s .places .ok .0, s .all)) ∙ ap kept-in (sym h)
+
+-- what is kept of the name is what the place keeps that was found
+pub kept-found : (s : Places) (n : Name) (i : ℕ) (place : Place) → Some i ≡ place-of (kept s) n → i < 8 → place ≡ getD (vec-items (s .places)) i place → kept-for (kept s) n ≡ kept-in place
+kept-found s n i place f l h = ap (kept-at (kept s)) (sym f) ∙ kept-there s i place l h
 
 pub kept-length : (s : Places) → length (kept s) ≡ 8
 kept-length s = length-map (vec-items (s .places)) kept-in ∙ omega (arith, s .places .ok .0, s .all)
