@@ -3,3 +3,4 @@ pub mod Clipping
 pub mod Seen
 pub mod Room
 pub mod Fits
+pub mod Kept

@@ -1,2 +1,3 @@
 pub mod Spelling
 pub mod Testing
+pub mod Compared

@@ -26,10 +26,10 @@ decides-ltZ a b = (λ h. grind (arith, ints), λ h. grind (arith, ints))
 decides-leZ : (a b : ℤ) → Decides (leZ a b) (a ≤ℤ b)
 decides-leZ a b = (λ h. grind (arith, ints), λ h. grind (arith, ints))
 
-decides-leb : (a b : ℕ) → Decides (leb a b) (a ≤ b)
+pub decides-leb : (a b : ℕ) → Decides (leb a b) (a ≤ b)
 decides-leb a b = (leb-true a b, le-leb a b)
 
-decides-same : (a b : ℤ) → Decides (same-number a b) (a ≡ b)
+pub decides-same : (a b : ℤ) → Decides (same-number a b) (a ≡ b)
 decides-same a b = decides-like (same-number a b) (λ h. omega (arith, ints)) (λ h. (omega (arith, ints), omega (arith, ints))) (decides-and (leZ a b) (leZ b a) (decides-leZ a b) (decides-leZ b a))
 
 decides-small : (z : ℤ) → Decides (small z) (Offset z)
@@ -57,7 +57,7 @@ decides-table i rows =
     decides-like (is-table i rows) (λ h. record { in-era = h .0; covers = h .1 .0; few = h .1 .1 }) (λ s. (s .in-era, (s .covers, s .few)))
     (decides-and _ _ (λ h. h, λ h. h) (decides-and _ _ (decides-cover i rows) (decides-leb (length rows) table-rows)))
 
-interval-from : (i o : Interval) → i .start ≡ o .start → i .end ≡ o .end → i ≡ o
+pub interval-from : (i o : Interval) → i .start ≡ o .start → i .end ≡ o .end → i ≡ o
 interval-from i o s e =
     let first : ℤ → Interval = λ a. record { start = a; end = i .end } in
     let second : ℤ → Interval = λ b. record { start = o .start; end = b } in

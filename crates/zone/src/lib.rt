@@ -1,4 +1,5 @@
 // Zone names, intervals, rows, tables and windows: what they are and what they must keep; and the refusals.
+pub mod comparing;
 pub mod deciding;
 pub mod filling;
 pub mod intervals;

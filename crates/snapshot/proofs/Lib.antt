@@ -1,0 +1,4 @@
+pub mod Fitting
+pub mod Found
+pub mod Meant
+pub mod Standing

@@ -1,0 +1,3 @@
+pub mod Zones
+pub mod Snapshots
+pub mod Laws
