@@ -29,11 +29,6 @@ abbrev pub bind : {A B : Type 0} → Option A → (A → Option B) → Option B
 bind None f = None
 bind (Some x) f = f x
 
--- the first value, if there is one, else the second
-abbrev pub either : {A : Type 0} → Option A → Option A → Option A
-either None y = y
-either (Some x) y = Some x
-
 -- there is no word
 abbrev pub blank : List ℕ → Bool
 blank line = eqb (length (trimmed line)) 0
@@ -99,17 +94,17 @@ call first others =
     (cond (sameBytes first (codes "forget")) (mapped Forget (lone-name others))
     (cond (sameBytes first (codes "query")) (question others) None))))
 
--- the setting of a word and the words after it
+-- the setting of a word and the words after it, or else the call on the client
 abbrev pub setting : List ℕ → List ℕ → Option Command
 setting first others =
     cond (sameBytes first (codes "root")) (mapped Store (storage others))
     (cond (sameBytes first (codes "span")) (mapped Truncate (interval others))
     (cond (sameBytes first (codes "uplink") && is-lone others) (Some Uplink)
-    (cond (sameBytes first (codes "downlink") && is-lone others) (Some Downlink) None)))
+    (cond (sameBytes first (codes "downlink") && is-lone others) (Some Downlink) (mapped Make (call first others)))))
 
 -- the command of a line
 abbrev pub command : List ℕ → Option Command
 command line =
     cond (sameBytes (word line) (codes "row")) (mapped Gather (row (rest line)))
     (cond (sameBytes (word line) (codes "publish")) (mapped Publish (stay (rest line)))
-    (either (mapped Make (call (word line) (rest line))) (setting (word line) (rest line))))
+    (setting (word line) (rest line)))

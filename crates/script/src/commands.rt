@@ -164,7 +164,7 @@ fn call(first: &[u8], others: &[u8]) -> Option<Call>
     }
 }
 
-// The setting of a word and the words after it.
+// The setting of a word and the words after it, or else the call on the client.
 fn setting(first: &[u8], others: &[u8]) -> Option<Command>
     ensures { λ r. ⌜ r ≡ setting-of (now (first .entry)) (now (others .entry)) ⌝ }
 {
@@ -177,7 +177,7 @@ fn setting(first: &[u8], others: &[u8]) -> Option<Command>
     } else if same(first, b"downlink") && is_lone(others) {
         Some(Command::Downlink)
     } else {
-        None
+        Some(Command::Make(call(first, others)?))
     }
 }
 
@@ -190,8 +190,6 @@ pub fn command(line: &[u8]) -> Option<Command>
         Some(Command::Gather(row(others)?))
     } else if same(first, b"publish") {
         Some(Command::Publish(stay(others)?))
-    } else if let Some(call) = call(first, others) {
-        Some(Command::Make(call))
     } else {
         setting(first, others)
     }
