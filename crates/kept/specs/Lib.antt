@@ -1,2 +1,4 @@
 pub mod Keeping
 pub mod Stepping
+pub mod Laws
+pub mod Examples

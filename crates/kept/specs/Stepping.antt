@@ -30,7 +30,7 @@ known-by (Some k) q = record { name = q .name; interval = q .interval; known = k
 abbrev pub sent : List (Option Kept) → Request → Request
 sent ps q = known-by (serving ps (q .name) (q .interval)) q
 
--- the edition of the page that is kept over the interval and the turn below: the larger of the two
+-- the larger of the turn below and the edition of the page that is kept over the interval
 abbrev pub turn-over : Option Kept → ℕ → ℕ
 turn-over None turn = turn
 turn-over (Some k) turn = max (k .edition) turn
@@ -39,13 +39,13 @@ turn-over (Some k) turn = max (k .edition) turn
 abbrev pub is-older : ℕ → Refusal → Bool
 is-older k r = eqb (number r) 4 || ((eqb (number r) 5 || eqb (number r) 6) && ltb (getD (values r) 0 0) k)
 
--- with a page of edition k kept over the interval
+-- what is done where a page of edition k is kept over the interval, and below answered r
 abbrev pub step-over : ℕ → Result Reply Refusal → Step
 step-over k (Err r) = cond (is-older k r) (Serve k) PassOn
 step-over k (Ok (Unchanged e)) = Renew (max k e)
 step-over k (Ok (Fresh e t)) = cond (ltb e k) (Serve k) (Take e t)
 
--- with none
+-- what is done where none is
 abbrev pub step-beside : Result Reply Refusal → Step
 step-beside (Err r) = PassOn
 step-beside (Ok (Unchanged e)) = PassOn
@@ -65,13 +65,14 @@ from-kept m q (Some k) = inside-answer (k .interval) m q (record { tag = k .tag;
 abbrev pub from-window : ℕ → ℕ → Request → Window → Outcome Answer
 from-window e t q w = inside-answer (w .interval) e q (record { tag = t; rows = vec-items (w .rows) })
 
--- what is answered, where below answered r and left w in the window that it was lent
+-- what is answered by a step, where below answered r and left w in the window that it was lent
 abbrev pub answer-by : List (Option Kept) → Request → Result Reply Refusal → Window → Step → Outcome Answer
 answer-by ps q r w PassOn = judged r w
 answer-by ps q r w (Serve m) = from-kept m q (kept-for ps (q .name))
 answer-by ps q r w (Renew m) = from-kept m q (kept-for ps (q .name))
 answer-by ps q r w (Take e t) = from-window e t q w
 
+-- what is answered
 abbrev pub answer-after : List (Option Kept) → Request → Result Reply Refusal → Window → Outcome Answer
 answer-after ps q r w = answer-by ps q r w (step (serving ps (q .name) (q .interval)) r)
 
@@ -79,12 +80,13 @@ answer-after ps q r w = answer-by ps q r w (step (serving ps (q .name) (q .inter
 abbrev pub page-in : Request → ℕ → ℕ → Window → Kept
 page-in q e t w = record { name = q .name; edition = e; tag = t; interval = w .interval; rows = vec-items (w .rows) }
 
--- what is kept afterwards
+-- what is kept after a step
 abbrev pub kept-by : List (Option Kept) → Request → Window → Step → List (Option Kept)
 kept-by ps q w PassOn = ps
 kept-by ps q w (Serve m) = ps
 kept-by ps q w (Renew m) = with-page ps (place-of ps (q .name)) (mapped (from-edition m) (kept-for ps (q .name)))
 kept-by ps q w (Take e t) = cond (may-replace e (kept-for ps (q .name))) (with-page ps (place-for ps (q .name)) (Some (page-in q e t w))) ps
 
+-- what is kept afterwards
 abbrev pub kept-after : List (Option Kept) → Request → Result Reply Refusal → Window → List (Option Kept)
 kept-after ps q r w = kept-by ps q w (step (serving ps (q .name) (q .interval)) r)

@@ -73,8 +73,9 @@ fn step_beside(reply: Result<Reply, Refusal>) -> Step
     ensures { λ r. ⌜ r ≡ step-beside reply ⌝ }
 {
     match reply {
+        Err(_) => Step::PassOn,
+        Ok(Reply::Unchanged { edition: _ }) => Step::PassOn,
         Ok(Reply::Fresh { edition, tag }) => Step::Take { edition, tag },
-        _ => Step::PassOn,
     }
 }
 

@@ -76,7 +76,8 @@ impl<P: Provider> Relay<P> {
     {
         let sent = self.places.request_below(request);
         let reply = self.below.fetch(sent, &mut self.scratch);
-        self.places.receive(request, reply, &mut self.scratch, place)
+        self.places
+            .receive(request, reply, &mut self.scratch, place)
     }
 }
 
