@@ -19,4 +19,4 @@ settled line first others r f o p q h =
     rw (p′, q′) h′
 
 pub returns-else-same-2 : need.returns-else-same-2
-returns-else-same-2 c = settled _ _ _ _ (c .split-word .ensures .first) (c .split-word .ensures .others) (c .if-same .ensures tt) (c .if-same-2 .ensures tt) (c .setting .ensures)
+returns-else-same-2 c = settled (c .args .line .now) _ _ _ (c .split-word .ensures .first) (c .split-word .ensures .others) (c .if-same .ensures tt) (c .if-same-2 .ensures tt) (c .setting .ensures)
