@@ -18,7 +18,10 @@ fn show<W: fmt::Write>(stamp: Stamp, f: &mut fmt::Formatter<W>) -> fmt::Result {
     let hour = stamp.hour;
     let minute = stamp.minute;
     let second = stamp.second;
-    write!(f, "{year:04}-{month:02}-{day:02}T{hour:02}:{minute:02}:{second:02}")
+    write!(
+        f,
+        "{year:04}-{month:02}-{day:02}T{hour:02}:{minute:02}:{second:02}"
+    )
 }
 
 pub impl fmt::Display for Date as DateDisplay {

@@ -34,7 +34,9 @@ fn verb(entry: &Entry) -> &'static str {
 // The instant that a query asks for.
 fn instant(entry: &Entry) -> Option<i64> {
     match entry {
-        Entry::Call { call: Call::Query { name: _, at } } => Some(at.0),
+        Entry::Call {
+            call: Call::Query { name: _, at },
+        } => Some(at.0),
         _ => None,
     }
 }
@@ -73,7 +75,10 @@ fn show_answer<W: fmt::Write>(answer: Answer, f: &mut fmt::Formatter<W>) -> fmt:
     let offset = answer.local.offset;
     let day = day(answer.local.observance);
     let date = Date { time };
-    write!(f, "edition {edition} local {time} offset {offset} day {day} at {date}")
+    write!(
+        f,
+        "edition {edition} local {time} offset {offset} day {day} at {date}"
+    )
 }
 
 pub impl fmt::Display for Words as WordsDisplay {

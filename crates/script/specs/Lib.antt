@@ -1,3 +1,3 @@
-pub mod Numbers
-pub mod Words
-pub mod Commands
+pub mod Drafts
+pub mod Scripts
+pub mod Seeing

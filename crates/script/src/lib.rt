@@ -1,7 +1,3 @@
 // Scripts: the lines that set up a stack of providers and make calls on a client over it.
-pub mod commands;
-pub mod lines;
-pub mod numbers;
 pub mod reading;
 pub mod scripts;
-pub mod splits;

@@ -1,6 +1,6 @@
 // A script: how the stack is set up, and the calls on the client.
-use super::lines::Storage;
 use client::listing::Entry;
+use command::lines::Storage;
 use zone::rows::Interval;
 use zone::rows::Row;
 
@@ -37,7 +37,7 @@ pub struct Draft<'a> {
 #[derive(Clone, Copy)]
 pub enum Fault {
     /// The line with this number, counted from 1, is not understood.
-    NotUnderstood { line: u64 },
+    NotUnderstood { line: usize },
     /// There is no memory for what was read.
     NoMemory,
 }
