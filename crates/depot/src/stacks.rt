@@ -1,4 +1,6 @@
 // The stack of providers of a script, and its calls made on a client over the stack.
+ghost use Rattle.std.specs.Vec.{made};
+ghost use Rattle.depot.specs.Stacks.{Sourced, Stacked};
 use client::listing::Outcome;
 use client::replays::replay_publishing;
 use line::lines::Line;
@@ -25,7 +27,9 @@ pub type Source = Line<Truncation<Root>>;
 pub type Stack = Line<Relay<Source>>;
 
 // The part of the stack below the relay.
-fn source(heap: Global, setup: Setup<'_>) -> Result<Source, AllocError> {
+fn source(heap: Global, setup: Setup<'_>) -> Result<Source, AllocError>
+    ensures { λ r. ⌜ made r (Sourced (setup .entry)) ⌝ }
+{
     let root = Root::new(heap, setup.storage.entries, setup.storage.rows)?;
     let truncation = Truncation::new(root, setup.span);
     let line = Line::new(heap, truncation, setup.uplink)?;
@@ -33,7 +37,9 @@ fn source(heap: Global, setup: Setup<'_>) -> Result<Source, AllocError> {
 }
 
 // The whole stack.
-fn stack(heap: Global, setup: Setup<'_>) -> Result<Stack, AllocError> {
+fn stack(heap: Global, setup: Setup<'_>) -> Result<Stack, AllocError>
+    ensures { λ r. ⌜ made r (Stacked (setup .entry)) ⌝ }
+{
     let relay = Relay::new(heap, source(heap, setup)?)?;
     let line = Line::new(heap, relay, setup.downlink)?;
     Ok(line)

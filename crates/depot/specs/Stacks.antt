@@ -1,0 +1,26 @@
+-- The stack of a script. Assumes nothing.
+use mathlib.Core.Path.{_≡_}
+use denote.Ref.{now}
+use Rattle.std.specs.Of.VecDeque.{deque-items}
+use Rattle.zone.specs.Intervals.{era}
+use Rattle.root.specs.declared.roots.Root.{Root}
+use Rattle.root.specs.Roots.{New}
+use Rattle.truncation.specs.declared.truncations.Truncation.{Truncation}
+use Rattle.truncation.specs.Truncating.{span-kept}
+use Rattle.line.specs.declared.lines.Line.{Line}
+use Rattle.line.specs.Fates.{fates-of}
+use Rattle.kept.specs.Keeping.{kept, none-kept}
+use Rattle.relay.specs.declared.relays.Relay.{Relay}
+use Rattle.script.specs.declared.scripts.Setup.{Setup}
+
+-- what the relay stands on: a line with the uplink's fates, to the truncation of a new root with the storage
+pub record Sourced (setup : Setup) (s : Line (Truncation Root)) : Type 0 where
+  pub uplink : deque-items (s .fates) ≡ fates-of (now (setup .uplink))
+  pub span : s .below .span ≡ span-kept (setup .span) era
+  pub root : New (setup .storage .entries) (setup .storage .rows) (s .below .below)
+
+-- the whole stack: a line with the downlink's fates, to a relay that keeps nothing yet
+pub record Stacked (setup : Setup) (s : Line (Relay (Line (Truncation Root)))) : Type 0 where
+  pub downlink : deque-items (s .fates) ≡ fates-of (now (setup .downlink))
+  pub keeps : kept (s .below .places) ≡ none-kept
+  pub source : Sourced setup (s .below .below)
