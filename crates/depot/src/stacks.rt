@@ -1,6 +1,7 @@
 // The stack of providers of a script, and its calls made on a client over the stack.
+ghost use Rattle.std.specs.Of.Vec.{vec-items};
 ghost use Rattle.std.specs.Vec.{made};
-ghost use Rattle.depot.specs.Stacks.{Sourced, Stacked};
+ghost use Rattle.depot.specs.Stacks.{Played, Sourced, Stacked};
 use client::listing::Outcome;
 use client::replays::replay_publishing;
 use line::lines::Line;
@@ -46,7 +47,9 @@ fn stack(heap: Global, setup: Setup<'_>) -> Result<Stack, AllocError>
 }
 
 /// Makes the calls of a script on a new client over the script's stack.
-pub fn replay_script(heap: Global, script: &Script<'_>) -> Result<Vec<Outcome>, AllocError> {
+pub fn replay_script(heap: Global, script: &Script<'_>) -> Result<Vec<Outcome>, AllocError>
+    ensures { λ r. ⌜ made r (λ v. Played (now (script .entry) .setup) (vec-items (now (script .entry) .entries)) (vec-items v)) ⌝ }
+{
     let provider = stack(heap, script.setup)?;
     let (outcomes, _) = replay_publishing(heap, provider, script.entries.as_slice())?;
     Ok(outcomes)
