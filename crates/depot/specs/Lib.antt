@@ -1,3 +1,2 @@
-pub mod Numbers
-pub mod Words
-pub mod Commands
+pub mod Meanings
+pub mod Stacks
