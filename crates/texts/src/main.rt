@@ -4,6 +4,8 @@ mod copying;
 mod heads;
 mod parting;
 mod printing;
+#[cfg(test)]
+mod tests;
 
 use copying::copy;
 use parting::first_text;

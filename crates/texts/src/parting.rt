@@ -1,9 +1,10 @@
 // The first text of the input, by the head line before it.
 ghost use mathlib.Core.Bool.{true};
 ghost use mathlib.Core.Path.{_≡_};
-ghost use Prim.Native.Nat.{_+_, _-_, _*_, _<_, _≤_};
-ghost use lib.ListN.{length, getD};
+ghost use Prim.Native.Nat.{_<_, _≤_};
+ghost use lib.ListN.{length};
 ghost use Rattle.std.specs.Options.{Cases as BySome};
+ghost use Rattle.std.specs.Orderings.{Decides};
 ghost use Rattle.std.specs.shelf.Text.{sameBytes};
 ghost use Rattle.texts.specs.Heads.{counted-after, first, head-seen, is-digit as digit, next, part-seen, told};
 use super::heads::Head;
@@ -70,13 +71,20 @@ fn head(bytes: &[u8]) -> Option<Head<'_>>
     count(&bytes[5..])
 }
 
+// Whether as many bytes follow as the head line tells.
+fn has_text(head: Head<'_>) -> bool
+    ensures { λ r. ⌜ Decides r (head .entry .len ≤ length (now (head .entry .rest))) ⌝ }
+{
+    head.len <= head.rest.len()
+}
+
 /// The text that the input begins with, after its head line, and the bytes after it; none where the input begins with no head line, or has fewer bytes than it tells.
 pub fn first_text(input: &[u8]) -> Option<Part<'_>>
     ensures is { λ r. ⌜ part-seen r ≡ first (now (input .entry)) ⌝ }
     ensures shorter { λ r. ⌜ BySome r (Unit {0}) (λ p. length (now (p .more)) < length (now (input .entry))) ⌝ }
 {
     let head = head(input)?;
-    if head.rest.len() < head.len {
+    if !has_text(head) {
         return None;
     }
     Some(Part {
