@@ -43,16 +43,20 @@ unread = record { storage = None; span = None; uplink = None; downlink = None; r
 abbrev pub setting-up : Read → Bool
 setting-up d = isSome (d .storage) && (eqb (length (d .rows)) 0 && eqb (length (d .calls)) 0)
 
--- settings, each at most once: the storage first, the others before the first call or row
+-- Settings come at most once each: the storage first, the others before the first call or row.
+-- the storage set
 abbrev pub stored : Read → Storage → Option Read
 stored d s = cond (isSome (d .storage)) None (Some (record { storage = Some s; span = d .span; uplink = d .uplink; downlink = d .downlink; rows = d .rows; calls = d .calls; names = d .names }))
 
+-- the span of the truncation set
 abbrev pub truncated : Read → Interval → Option Read
 truncated d i = cond (setting-up d && not (isSome (d .span))) (Some (record { storage = d .storage; span = Some i; uplink = d .uplink; downlink = d .downlink; rows = d .rows; calls = d .calls; names = d .names })) None
 
+-- the marks of the line below the relay set
 abbrev pub uplinked : Read → List ℕ → Option Read
 uplinked d marks = cond (setting-up d && not (isSome (d .uplink))) (Some (record { storage = d .storage; span = d .span; uplink = Some marks; downlink = d .downlink; rows = d .rows; calls = d .calls; names = d .names })) None
 
+-- the marks of the line above the relay set
 abbrev pub downlinked : Read → List ℕ → Option Read
 downlinked d marks = cond (setting-up d && not (isSome (d .downlink))) (Some (record { storage = d .storage; span = d .span; uplink = d .uplink; downlink = Some marks; rows = d .rows; calls = d .calls; names = d .names })) None
 

@@ -46,6 +46,7 @@ abbrev pub finished : Read → Option Storage → Result Whole ℕ
 finished d None = Err 1
 finished d (Some s) = Ok (set-up d s)
 
+-- what comes of the lines at the script's end
 abbrev pub ended : Result Read ℕ → Result Whole ℕ
 ended (Ok d) = finished d (d .storage)
 ended (Err n) = Err n

@@ -19,13 +19,16 @@ use Rattle.script.specs.declared.scripts.Script.{Script}
 use Rattle.script.specs.Drafts.{Listed, called, published, Read}
 use Rattle.script.specs.Scripts.{Whole}
 
+-- a call of the code
 abbrev pub listed-of : Entry → Listed
 listed-of (entry.Call c) = called c
 listed-of (entry.Publish n t) = published n (t .interval) (vec-items (t .rows))
 
+-- a draft of the code
 abbrev pub read-of : Draft → Read
 read-of d = record { storage = d .storage; span = d .span; uplink = mapped now (d .uplink); downlink = mapped now (d .downlink); rows = vec-items (d .rows); calls = map listed-of (vec-items (d .entries)); names = map now (vec-items (d .names)) }
 
+-- a script of the code
 abbrev pub whole-of : Script → Whole
 whole-of s = record { storage = s .setup .storage; span = s .setup .span; uplink = now (s .setup .uplink); downlink = now (s .setup .downlink); calls = map listed-of (vec-items (s .entries)); names = map now (vec-items (s .names)) }
 
