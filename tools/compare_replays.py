@@ -47,17 +47,22 @@ def table(random, points):
 
 def script(random):
     """One script."""
-    points = [ERA[0], 0, 1000, 100000, 50000000, 90000000, 1711846800, 1729990800, ERA[1] - 1]
+    points = random.choice([
+        [ERA[0], 0, 1000, 100000, 50000000, 90000000, 1711846800, 1729990800, ERA[1] - 1],
+        [0, 1711846800, 1729990800],
+    ])
     names = random.sample(NAMES, random.choice([1, 2, 3, 9, len(NAMES)]))
     lines = [f"root {random.choice([1, 12, 60, 60])} {random.choice([100, 4000, 4000])}"]
     if random.random() < 0.3:
         start, end = interval(random, points)
         lines.append(f"span {start} {end}")
-    weights = random.choice([[6, 1, 1], [1, 1, 1], [2, 3, 1]])
-    for link in ["uplink", "downlink"]:
+    losses = {"uplink": [[6, 1, 1], [1, 1, 1], [1, 2, 1]], "downlink": [[6, 1, 1], [20, 1, 1]]}
+    for link, weights in losses.items():
         if random.random() < 0.8:
-            marks = random.choices("pqr", weights, k=random.choice([1, 5, 30, 64, 65]))
+            length = random.choice([1, 5, 30, 64, 64, 64, 65])
+            marks = random.choices("pqr", random.choice(weights), k=length)
             lines.append(f"{link} {''.join(marks)}")
+    begins = random.choice([0.4, 0.4, 0.8])
     for _ in range(random.choice([5, 40, 160])):
         name = random.choice(names if random.random() < 0.97 else BAD_NAMES)
         deed = random.random()
@@ -65,13 +70,15 @@ def script(random):
             lines += table(random, points)
             start, end = ERA if random.random() < 0.95 else interval(random, points)
             lines.append(f"publish {name} {start} {end}")
-        elif deed < 0.4:
+        elif deed < begins:
             start, end = interval(random, points)
             lines.append(f"begin {name} {start} {end}")
             if random.random() < 0.7:
                 lines.append(f"collect {name}")
-        elif deed < 0.65:
+        elif deed < begins + 0.1:
             lines.append(f"collect {name}")
+        elif deed < 0.65:
+            lines.append(f"query {name} {random.choice(points)}")
         elif deed < 0.7:
             lines.append(f"abandon {name}")
         elif deed < 0.76:
