@@ -1,4 +1,6 @@
 // Worked cases: a year of Central European time as values, and tests of the public calls on it and at the edges of what they take.
+#![tactic(auto)]
+
 #[cfg(test)]
 mod test_calendar;
 #[cfg(test)]

@@ -1,4 +1,6 @@
 // The client: it holds part of each zone's table and answers local times while the line is down.
+#![tactic(auto)]
+
 pub mod calls;
 pub mod clients;
 pub mod listing;

@@ -1,4 +1,6 @@
 // The commands of a script, one a line: words, numbers, names and intervals.
+#![tactic(auto)]
+
 pub mod commands;
 pub mod lines;
 pub mod numbers;

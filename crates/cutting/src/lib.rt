@@ -1,4 +1,6 @@
 // The row in force, local times, and cuts.
+#![tactic(auto)]
+
 pub mod cuts;
 pub mod filling;
 pub mod laws;

@@ -1,4 +1,6 @@
 // A table of eight places for pages that are kept, one page a name, and what is done with it when the provider below has answered.
+#![tactic(auto)]
+
 pub mod answering;
 pub mod changing;
 pub mod laws;

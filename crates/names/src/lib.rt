@@ -1,4 +1,6 @@
 // Zone names: made from text, checked, compared and spelled.
+#![tactic(auto)]
+
 pub mod laws;
 pub mod name;
 pub mod naming;

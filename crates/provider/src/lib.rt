@@ -1,4 +1,6 @@
 // Providers of time-zone tables: what they mean, and what every one of them owes.
+#![tactic(auto)]
+
 pub mod answers;
 pub mod laws;
 pub mod providers;

@@ -1,2 +1,4 @@
 // A layer over a provider: a relay that keeps pages.
+#![tactic(auto)]
+
 pub mod relays;

@@ -1,4 +1,6 @@
 // The snapshot: a provider of one edition that never changes.
+#![tactic(auto)]
+
 pub mod answering;
 pub mod deciding;
 pub mod laws;

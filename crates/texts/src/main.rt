@@ -1,4 +1,6 @@
 // Reads zone texts from standard input, prints what each of them says, and writes it again to see that the same bytes come.
+#![tactic(auto)]
+
 mod printing;
 
 use anyhow::anyhow;

@@ -1,4 +1,6 @@
 // Intervals, rows, tables and windows: what they are and what they must keep; and the refusals.
+#![tactic(auto)]
+
 pub mod comparing;
 pub mod deciding;
 pub mod filling;

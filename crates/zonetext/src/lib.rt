@@ -1,4 +1,6 @@
 // The text of a zone over a window: a condensed VTIMEZONE, read and written.
+#![tactic(auto)]
+
 pub mod laws;
 pub mod lines;
 mod parting;

@@ -1,4 +1,6 @@
 // The text of a zone over a window, written into a buffer that is lent.
+#![tactic(auto)]
+
 mod printing;
 mod putting;
 mod rowtexts;
