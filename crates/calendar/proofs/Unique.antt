@@ -30,7 +30,7 @@ unfolding made
 from_1899_unique a b v w n =
     let q : day_number a ≡ day_number b = omega arith in
     let s : second_of_day a ≡ second_of_day b = omega arith in
-    let u = day_unique a.year a.month (a.day - 1) b.year b.month (b.day - 1) v.first_year w.first-year v.first_month v.last_month w.first-month w.last-month (omega arith) (omega arith) q in
+    let u = day_unique a.year a.month (a.day - 1) b.year b.month (b.day - 1) v.first_year w.first_year v.first_month v.last_month w.first_month w.last_month (omega arith) (omega arith) q in
     same_made a.year b.year a.month b.month a.day b.day a.hour b.hour a.minute b.minute a.second b.second u.0 u.1 (omega (arith, u.2)) (omega arith) (omega arith) (omega arith)
 
 -- no two valid stamps have the same seconds

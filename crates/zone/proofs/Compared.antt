@@ -16,7 +16,7 @@ decides_observance Standard Daylight = (λ h. cc, λ h. cc)
 decides_observance Daylight Standard = (λ h. cc, λ h. cc)
 decides_observance Daylight Daylight = (λ _. refl, λ _. refl)
 
-row_from : (a b : Row) → a.onset ≡ b.onset → a.from ≡ b.from → a.to ≡ b.to → a.observance ≡ b.observance → a ≡ b
+pub row_from : (a b : Row) → a.onset ≡ b.onset → a.from ≡ b.from → a.to ≡ b.to → a.observance ≡ b.observance → a ≡ b
 row_from a b o f t v =
     let first : ℤ → Row = λ x. record { onset = x; from = a.from; to = a.to; observance = a.observance } in
     let second : ℤ → Row = λ x. record { onset = b.onset; from = x; to = a.to; observance = a.observance } in

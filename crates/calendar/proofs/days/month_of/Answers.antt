@@ -5,8 +5,8 @@ use Rattle.calendar.proofs.Sum.{between_more, between_order, months_year, year_d
 use Rattle.calendar.proofs.Closed.{month_guess, month_guess_next}
 use Rattle.calendar.proofs.days.month_of.Goals as goal
 
-pub overflow-sub-result : goal.overflow-sub-result
-overflow-sub-result c = omega (arith, month_guess c.args.year c.args.days (omega (arith, year_days_le c.args.year)))
+pub overflow_sub-result : goal.overflow_sub-result
+overflow_sub-result c = omega (arith, month_guess c.args.year c.args.days (omega (arith, year_days_le c.args.year)))
 
 pub returns-then-days-next : goal.returns-then-days-next
 returns-then-days-next c =

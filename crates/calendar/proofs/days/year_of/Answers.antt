@@ -5,8 +5,8 @@ use Rattle.calendar.proofs.Sum.{between_more, between_order}
 use Rattle.calendar.proofs.Closed.{year_guess, year_guess_next}
 use Rattle.calendar.proofs.days.year_of.Goals as goal
 
-pub overflow-sub-result : goal.overflow-sub-result
-overflow-sub-result c = omega (arith, year_guess c.args.days)
+pub overflow_sub-result : goal.overflow_sub-result
+overflow_sub-result c = omega (arith, year_guess c.args.days)
 
 pub returns-then-days-next : goal.returns-then-days-next
 returns-then-days-next c =

@@ -4,14 +4,14 @@ use Rattle.calendar.specs.Calendar.{month_days}
 use Rattle.calendar.proofs.Unique.{day_small}
 use Rattle.calendar.proofs.stamps.seconds_of_valid.Goals as goal
 
-pub overflow-add-days : goal.overflow-add-days
-overflow-add-days c =
+pub overflow_add-days : goal.overflow_add-days
+overflow_add-days c =
     let d = c.args.stamp in
     let s = day_small d.year d.month (d.day - 1) c.requires.first_year c.requires.last_year c.requires.first_month c.requires.last_month (omega arith) in
     search rules
 
-pub overflow-add-days-2 : goal.overflow-add-days-2
-overflow-add-days-2 c =
+pub overflow_add-days-2 : goal.overflow_add-days-2
+overflow_add-days-2 c =
     let d = c.args.stamp in
     let s = day_small d.year d.month (d.day - 1) c.requires.first_year c.requires.last_year c.requires.first_month c.requires.last_month (omega arith) in
     search rules

@@ -8,11 +8,11 @@ use Rattle.zone.proofs.comparing.same_rows.Goals as goal
 pub returns-then-a-b : goal.returns-then-a-b
 returns-then-a-b c = sym (rows_differ c.args.a.now c.args.b.now (λ q. c.if-a-b.true (ap length q)))
 
-pub returns-then-not-is-same-row : goal.returns-then-not-is-same-row
-returns-then-not-is-same-row c = sym (rows_differ c.args.a.now c.args.b.now (λ q. not_from_Decides c.is-same-row.result c.is-same-row.ensures c.if-not-is-same-row.true (ap (λ rows. get_or rows c.loop-i.i no_row) q)))
+pub returns-then-not-is_same_row : goal.returns-then-not-is_same_row
+returns-then-not-is_same_row c = sym (rows_differ c.args.a.now c.args.b.now (λ q. not_from_Decides c.is_same_row.result c.is_same_row.ensures c.if-not-is_same_row.true (ap (λ rows. get_or rows c.loop-i.i no_row) q)))
 
 pub loop-i-preserved : goal.loop-i-preserved
-loop-i-preserved c = take_more_same c.args.a.now c.args.b.now c.loop-i.i no_row (omega arith) (omega arith) c.loop-i.invariant (c.is-same-row.ensures.0 c.if-not-is-same-row.false)
+loop-i-preserved c = take_more_same c.args.a.now c.args.b.now c.loop-i.i no_row (omega arith) (omega arith) c.loop-i.invariant (c.is_same_row.ensures.0 c.if-not-is_same_row.false)
 
 pub returns : goal.returns
 returns c =
