@@ -8,20 +8,20 @@ use Rattle.cutting.proofs.Clipping.{cuts_agree, within_trans}
 use Rattle.cutting.proofs.Fits.{cut_many}
 use Rattle.cutting.proofs.cuts.cut_covering.Goals as goal
 
-pub returns-then-not-is-cut-small : goal.returns-then-not-is-cut-small
-returns-then-not-is-cut-small c =
-    record { told = sym (cut_many c.args.of c.args.rows.now c.args.to (sym c.if-not-is-within.ensures) (sym c.if-not-is-cut-small.ensures)); leaves = (refl, refl) }
+pub returns-then-not-is_cut_small : goal.returns-then-not-is_cut_small
+returns-then-not-is_cut_small c =
+    record { told = sym (cut_many c.args.of c.args.rows.now c.args.to (sym c.if-not-is_within.ensures) (sym c.if-not-is_cut_small.ensures)); leaves = (refl, refl) }
 
-pub put-cut-requires : goal.put-cut-requires
-put-cut-requires c =
-    let n : length (cut c.args.rows.now c.args.to) ≤ 64 = leb-true _ 64 (sym c.if-not-is-cut-small.ensures) in
+pub put_cut-requires : goal.put_cut-requires
+put_cut-requires c =
+    let n : length (cut c.args.rows.now c.args.to) ≤ 64 = leb-true _ 64 (sym c.if-not-is_cut_small.ensures) in
     record { some = c.requires.covers.begins.0; room = le_trans n c.args.place.now.room }
 
-pub invariant-of-place : goal.invariant-of-place
-invariant-of-place c =
+pub invariant_of-place : goal.invariant_of-place
+invariant_of-place c =
     let rows = c.args.rows.now in
-    let w = sym c.if-not-is-within.ensures in
-    let q = c.put-cut.ensures.items in
-    let v : Covers c.args.to (vec_items c.put-cut.new.out) = subst (λ (x : List Row). Covers c.args.to x) (sym q) (cuts_agree c.args.of rows c.args.to c.requires.covers w).covers in
-    let n : length (vec_items c.put-cut.new.out) ≤ 64 = omega (arith, ap length q, leb-true (length (cut rows c.args.to)) 64 (sym c.if-not-is-cut-small.ensures)) in
-    (within_trans c.args.to c.args.of era w c.requires.era, (v.begins, (v.joined, (v.ends, (v.small, (n, (omega (arith, c.put-cut.ensures.capacity, c.args.place.now.room), tt)))))))
+    let w = sym c.if-not-is_within.ensures in
+    let q = c.put_cut.ensures.items in
+    let v : Covers c.args.to (vec_items c.put_cut.new.out) = subst (λ (x : List Row). Covers c.args.to x) (sym q) (cuts_agree c.args.of rows c.args.to c.requires.covers w).covers in
+    let n : length (vec_items c.put_cut.new.out) ≤ 64 = omega (arith, ap length q, leb-true (length (cut rows c.args.to)) 64 (sym c.if-not-is_cut_small.ensures)) in
+    record { era = within_trans c.args.to c.args.of era w c.requires.era; begins = v.begins; joined = v.joined; ends = v.ends; small = v.small; few = n; room = omega (arith, c.put_cut.ensures.capacity, c.args.place.now.room) }

@@ -9,10 +9,10 @@ use Rattle.fields.proofs.offsets.print_offset.Goals.{then-offset-lt0, else-offse
 pub returns : goal.returns
 returns c =
     let fits : SFits w32 c.args.offset.0 = search rules in
-    let n : c.unsigned-abs-size.result ≡ nat_abs c.args.offset.0 = simp to_z-of_z at c.unsigned-abs-size.ensures.value in
+    let n : c.unsigned_abs-size.result ≡ nat_abs c.args.offset.0 = simp to_z-of_z at c.unsigned_abs-size.ensures.value in
     let b : c.if-offset-lt0.sign ≡ sign c.args.offset.0 =
     elim c.if-offset-lt0.branch [
       | then-offset-lt0 w ↦ w.sign-is ∙ sign_below _ (simp to_z-of_z at w.if-offset-lt0.true)
       | else-offset-lt0 w ↦ w.sign-is ∙ sign_above _ (simp to_z-of_z at w.if-offset-lt0.false)
     ] in
-    printed_front c.args.offset _ _ _ (omega (arith, n)) n b c.clock-text.ensures
+    printed_front c.args.offset _ _ _ (omega (arith, n)) n b c.clock_text.ensures

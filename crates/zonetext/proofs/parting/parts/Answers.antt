@@ -3,14 +3,14 @@ use Rattle.zonetext.specs.Lines.{seen}
 use Rattle.zonetext.proofs.Cuts.{said_whole, said_begin, said_end, said_property, as_slices}
 use Rattle.zonetext.proofs.parting.parts.Goals as goal
 
-pub returns-in-err-n : goal.returns-in-err-n
-returns-in-err-n c = ap seen c.from-residual.ensures ∙ said_whole _ c.in-err-n.ensures
+pub returns-in_err-n : goal.returns-in_err-n
+returns-in_err-n c = ap seen c.from_residual.ensures ∙ said_whole _ c.in_err-n.ensures
 
 pub returns-then-same : goal.returns-then-same
-returns-then-same c = said_begin _ _ _ (as_slices _ _ c.in-ok-n.ensures.1) (sym c.if-same.ensures)
+returns-then-same c = said_begin _ _ _ (as_slices _ _ c.in_ok-n.ensures.1) (sym c.if-same.ensures)
 
 pub returns-then-same-2 : goal.returns-then-same-2
-returns-then-same-2 c = said_end _ _ _ (as_slices _ _ c.in-ok-n.ensures.1) (sym c.if-same.ensures) (sym c.if-same-2.ensures)
+returns-then-same-2 c = said_end _ _ _ (as_slices _ _ c.in_ok-n.ensures.1) (sym c.if-same.ensures) (sym c.if-same-2.ensures)
 
 pub returns-else-same-2 : goal.returns-else-same-2
-returns-else-same-2 c = said_property _ _ _ (as_slices _ _ c.in-ok-n.ensures.1) (sym c.if-same.ensures) (sym c.if-same-2.ensures)
+returns-else-same-2 c = said_property _ _ _ (as_slices _ _ c.in_ok-n.ensures.1) (sym c.if-same.ensures) (sym c.if-same-2.ensures)

@@ -10,7 +10,7 @@ returns-then-text-ne16 c = elim c.then-text-ne16.branch [
 ]
 
 pub returns-in-Some : goal.returns-in-Some
-returns-in-Some c = c.end-at.ensures ∙ until_yes _ _ c.if-text-ne16.false c.if-not-same.ensures c.in-Some.ensures
+returns-in-Some c = c.end_at.ensures ∙ until_yes _ _ c.if-text-ne16.false c.if-not-same.ensures c.in-Some.ensures
 
 pub returns-in-None : goal.returns-in-None
 returns-in-None c = until_yes _ _ c.if-text-ne16.false c.if-not-same.ensures c.in-None.ensures

@@ -6,7 +6,7 @@ use Rattle.zonetext.proofs.places.Reader.close.Goals as goal
 pub returns : goal.returns
 returns c =
     let self = c.args.self.now in
-    record { room = omega arith; moves = close_yes self.place _ _ self.rows self.count _ _ (omega arith) c.in-Some.ensures c.if-not-has-place-for.ensures }
+    record { room = omega arith; moves = close_yes self.place _ _ self.rows self.count _ _ (omega arith) c.in-Some.ensures c.if-not-has_place_for.ensures }
 
-pub returns-in-default : goal.returns-in-default
-returns-in-default c = record { room = c.requires.0; moves = close_none (state_of c.args.self.now) (row_of c.args.observance c.args.start c.args.from c.args.to) c.in-default.ensures }
+pub returns-in_default : goal.returns-in_default
+returns-in_default c = record { room = c.requires.0; moves = close_none (state_of c.args.self.now) (row_of c.args.observance c.args.start c.args.from c.args.to) c.in_default.ensures }
