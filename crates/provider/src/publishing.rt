@@ -21,5 +21,5 @@ pub trait Publishing: Provider {
     /// Publishes a table over the era for the name, and answers the number of the new edition.
     fn publish(&mut self, name: Name, table: &Table) -> Result<Edition, Refusal>
         ensures after { after_publish self.old name table.now self.new }
-        ensures told { in_order self.old → Published (means span count pages turn self.old) (means span count pages turn self.new) (in_order self.new) (fits self.old) name table.now self.old self.new result };
+        ensures told { Self.in_order self.old → Published (means Self.span Self.count Self.pages Self.turn self.old) (means Self.span Self.count Self.pages Self.turn self.new) (Self.in_order self.new) (fits self.old) name table.now self.old self.new result };
 }
