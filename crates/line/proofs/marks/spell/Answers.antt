@@ -7,7 +7,7 @@ pub loop-mark-preserved : goal.loop-mark-preserved
 loop-mark-preserved c =
     let marks = c.args.marks.now in
     let i = c.loop-mark.mark-index in
-    c.in-ok-push-back.ensures.items ∙ ap (λ xs. xs ++ c.fate-of.result ∷ []) c.loop-mark.invariant ∙ ap (λ f. map spelled (take i marks) ++ f ∷ []) c.fate-of.ensures ∙ sym (map_more spelled marks i 0 c.loop-mark-test.true)
+    c.in_ok-push_back.ensures.items ∙ ap (λ xs. xs ++ c.fate_of.result ∷ []) c.loop-mark.invariant ∙ ap (λ f. map spelled (take i marks) ++ f ∷ []) c.fate_of.ensures ∙ sym (map_more spelled marks i 0 c.loop-mark-test.true)
 
 pub returns : goal.returns
 returns c = c.loop-mark.invariant ∙ ap (map spelled) (take_all c.loop-mark.mark-index c.args.marks.now c.loop-mark-test.false)

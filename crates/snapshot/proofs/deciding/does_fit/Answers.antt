@@ -5,4 +5,4 @@ use Rattle.snapshot.proofs.deciding.does_fit.Goals as goal
 pub returns : goal.returns
 returns c =
     let z = c.args.zone.now in
-    over_is z.window.interval c.args.span c.is-over.result c.is-over.ensures ∙ sym (fits_rest c.args.edition c.args.span z (sym c.if-not-is-valid.ensures) (sym c.if-not-is-tagged.ensures))
+    over_is z.window.interval c.args.span c.is_over.result c.is_over.ensures ∙ sym (fits_rest c.args.edition c.args.span z (sym c.if-not-is_valid.ensures) (sym c.if-not-is_tagged.ensures))

@@ -3,4 +3,4 @@ use Rattle.zonewriter.proofs.Placing.{placed_part}
 use Rattle.zonewriter.proofs.putting.put.Goals as goal
 
 pub returns : goal.returns
-returns c = record { end = refl; after = placed_part _ _ _ _ c.copy-from-slice.ensures.after }
+returns c = record { end = refl; after = placed_part _ _ _ _ c.copy_from_slice.ensures.after }

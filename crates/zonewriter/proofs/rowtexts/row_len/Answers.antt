@@ -6,6 +6,6 @@ use Rattle.zonewriter.proofs.rowtexts.row_len.Goals as goal
 pub returns : goal.returns
 returns c =
     record {
-      is = row_bytes c.args.row _ _ (c.offset-bytes.ensures.len ∙ ap (λ z. length (printed z)) c.offset-before.ensures) (c.offset-bytes-2.ensures.len ∙ ap (λ z. length (printed z)) c.offset-after.ensures);
-      few = omega (arith, c.offset-bytes.result.within, c.offset-bytes-2.result.within);
+      is = row_bytes c.args.row _ _ (c.offset_bytes.ensures.len ∙ ap (λ z. length (printed z)) c.offset_before.ensures) (c.offset_bytes-2.ensures.len ∙ ap (λ z. length (printed z)) c.offset_after.ensures);
+      few = omega (arith, c.offset_bytes.result.within, c.offset_bytes-2.result.within);
     }

@@ -4,17 +4,17 @@ use Rattle.kept.specs.Keeping.{is_of, kept}
 use Rattle.kept.proofs.Finding.{tested_there, kept_length}
 use Rattle.kept.proofs.places.Places.find.Goals as goal
 
-pub returns-then-is-of : goal.returns-then-is-of
-returns-then-is-of c =
+pub returns-then-is_of : goal.returns-then-is_of
+returns-then-is_of c =
     record {
       place = sym (first_found None (is_of c.args.name.now) (kept c.args.self.now) c.loop-i.i c.loop-i.invariant (omega (arith, kept_length c.args.self.now))
-          (tested_there (is_of c.args.name.now) c.args.self.now c.loop-i.i c.index.result.now _ c.loop-i-test.true c.index.ensures c.if-is-of.ensures));
+          (tested_there (is_of c.args.name.now) c.args.self.now c.loop-i.i c.index.result.now _ c.loop-i-test.true c.index.ensures c.if-is_of.ensures));
       within = c.loop-i-test.true;
     }
 
 pub loop-i-preserved : goal.loop-i-preserved
 loop-i-preserved c =
-    below_more _ _ c.loop-i.invariant (tested_there (is_of c.args.name.now) c.args.self.now c.loop-i.i c.index.result.now _ c.loop-i-test.true c.index.ensures c.if-is-of.ensures)
+    below_more _ _ c.loop-i.invariant (tested_there (is_of c.args.name.now) c.args.self.now c.loop-i.i c.index.result.now _ c.loop-i-test.true c.index.ensures c.if-is_of.ensures)
 
 pub returns : goal.returns
 returns c = record { place = sym (first_none None (is_of c.args.name.now) (kept c.args.self.now) (λ k l. c.loop-i.invariant k (omega (arith, kept_length c.args.self.now)))); within = tt }

@@ -8,4 +8,4 @@ pub returns : goal.returns
 returns c =
     let s = c.args.self.now in
     let label = Some c.args.label in
-    kept_changed s c.args.i (record { label = label; window = c.swap.new.x }) ∙ ap (λ (y : Window). set (kept s) c.args.i (labelled label y)) c.swap.ensures.x-after
+    kept_changed s c.args.i (record { label = label; window = c.swap.new.x }) ∙ ap (λ (y : Window). set (kept s) c.args.i (labelled label y)) c.swap.ensures.x_after

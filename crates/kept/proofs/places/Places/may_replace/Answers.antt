@@ -6,4 +6,4 @@ use Rattle.kept.proofs.places.Places.may_replace.Goals as goal
 pub returns-in-Some : goal.returns-in-Some
 returns-in-Some c =
     let found = kept_found c.args.self.now c.args.name.now c.in-Some.i c.index.result.now c.in-Some.ensures.place c.in-Some.ensures.within c.index.ensures in
-    c.may-replace.ensures ∙ ap (may_replace c.args.edition) (sym found)
+    c.may_replace.ensures ∙ ap (may_replace c.args.edition) (sym found)

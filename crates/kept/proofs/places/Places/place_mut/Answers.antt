@@ -7,4 +7,4 @@ use Rattle.kept.proofs.places.Places.place_mut.Goals as goal
 -- the ghost field is an equation of numbers, which has one proof
 pub returns : goal.returns
 returns c =
-    ((refl, λ w. let mk : (vec_len c.args.self.now.places ≡ 8) → Places = (λ p. record { places = with_item c.args.self.now.places c.args.i w; all = p }) in ap mk (ℕ_set _ _ _ _)), c.index-mut.ensures.value)
+    ((refl, λ w. let mk : (vec_len c.args.self.now.places ≡ 8) → Places = (λ p. record { places = with_item c.args.self.now.places c.args.i w; all = p }) in ap mk (ℕ_set _ _ _ _)), c.index_mut.ensures.value)

@@ -11,19 +11,19 @@ lies s i e l q =
     let k : i < length (vec_items s.entries) = omega (arith, s.entries.ok.0) in
     subst (λ (x : Entry). x.start + x.len ≤ length (vec_items s.rows)) (sym (get_or_read (vec_items s.entries) i e k q no_entry)) (s.inside i k)
 
-pub overflow-add-end : goal.overflow-add-end
-overflow-add-end c =
+pub overflow_add-end : goal.overflow_add-end
+overflow_add-end c =
     let h = lies c.args.self.now c.args.i c.index-entry.result.now c.requires c.index-entry.ensures in
     let n = c.args.self.now.rows.ok in
     search rules
 
-pub offset-bounds-as-slice-start : goal.offset-bounds-as-slice-start
-offset-bounds-as-slice-start c =
+pub offset_bounds-as_slice-start : goal.offset_bounds-as_slice-start
+offset_bounds-as_slice-start c =
     let h = lies c.args.self.now c.args.i c.index-entry.result.now c.requires c.index-entry.ensures in
     search rules
 
-pub slice-bounds-result-end : goal.slice-bounds-result-end
-slice-bounds-result-end c =
+pub slice_bounds-result-end : goal.slice_bounds-result-end
+slice_bounds-result-end c =
     let h = lies c.args.self.now c.args.i c.index-entry.result.now c.requires c.index-entry.ensures in
     search rules
 
@@ -34,4 +34,4 @@ returns c =
     let k : c.args.i < length (vec_items s.entries) = omega (arith, s.entries.ok.0) in
     let q = get_or_read (vec_items s.entries) c.args.i e k c.index-entry.ensures no_entry in
     let n : e.start + e.len - e.start ≡ e.len = omega arith in
-    ap (λ x. take x (drop e.start c.as-slice.result.now)) n ∙ (ap (λ x. take e.len (drop e.start x)) c.as-slice.ensures.value ∙ ap (λ (x : Entry). take x.len (drop x.start (vec_items s.rows))) q)
+    ap (λ x. take x (drop e.start c.as_slice.result.now)) n ∙ (ap (λ x. take e.len (drop e.start x)) c.as_slice.ensures.value ∙ ap (λ (x : Entry). take x.len (drop x.start (vec_items s.rows))) q)

@@ -5,6 +5,6 @@ use Rattle.truncation.proofs.truncations.Truncation.new.Goals as goal
 pub returns : goal.returns
 returns g c = record {
   below = refl;
-  span = c.kept-span-span.ensures;
-  order = λ o. (o, kept_inside c.args.span (g.P.Provider.span c.args.below) _ c.kept-span-span.ensures (g.met.P.Provider.sound c.args.below o).in_era);
+  span = c.kept_span-span.ensures;
+  order = λ o. (o, kept_inside c.args.span (g.P.Provider.span c.args.below) _ c.kept_span-span.ensures (g.met.P.Provider.sound c.args.below o).in_era);
 }

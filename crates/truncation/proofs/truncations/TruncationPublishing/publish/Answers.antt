@@ -7,5 +7,5 @@ returns g c =
     let s = c.args.self.now in
     record {
       after = (c.publish.ensures.after, refl);
-      told = λ o. truncated_published _ s.span (g.met.P.Provider.sound s.below o.0) o.1 (c.in-ok-edition.ensures.told o.0);
+      told = λ o. truncated_published _ s.span (g.met.P.Provider.sound s.below o.0) o.1 (c.in_ok-edition.ensures.told o.0);
     }
