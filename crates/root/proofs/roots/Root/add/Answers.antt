@@ -13,7 +13,7 @@ invariant_of-self c =
     let rows = c.as_slice-rows.result.now in
     let e = c.next_entry-entry.ensures in
     let inside = inside_added (vec_items s.entries) (vec_items s.rows) rows c.next_entry-entry.result (vec_items c.keep.new.entries) (vec_items c.store.new.storage) s.inside c.keep.ensures.items c.store.ensures.items (ap (λ (x : Entry). x.start) e ∙ s.rows.ok.0) (ap (λ (x : Entry). x.len) e) in
-    (omega (arith, c.keep.ensures.len, c.requires.number), (omega (arith, c.keep.ensures.capacity, s.reserved), (omega (arith, c.store.ensures.capacity, s.kept), (inside, tt))))
+    record { few = omega (arith, c.keep.ensures.len, c.requires.number); reserved = omega (arith, c.keep.ensures.capacity, s.reserved); kept = omega (arith, c.store.ensures.capacity, s.kept); inside = inside }
 
 pub returns : goal.returns
 returns c =
