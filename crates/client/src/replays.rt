@@ -73,7 +73,7 @@ pub fn replay<P: Provider + Drop>(
 impl<P: Publishing> Session<P> {
     // Makes one publication of a list.
     fn publish(&mut self, name: Name, table: &Table) -> Outcome
-        ensures { ClientInOrder P.Provider self.old.client.provider (state_of self.old.client.slots self.old.client.floor) → Matches self.old.tokens.items (state_of self.old.client.slots self.old.client.floor) → Posted P.Provider P.Publishing (publish name table.now) self.old.client.provider self.new.client.provider (state_of self.old.client.slots self.old.client.floor) (state_of self.new.client.slots self.new.client.floor) self.new.tokens.items (report_of result) }
+        ensures { ClientInOrder P.Provider self.old.client.provider (state_of self.old.client.slots self.old.client.floor) → Matches self.old.tokens.items (state_of self.old.client.slots self.old.client.floor) → Posted P.Provider P.Publishing.own (publish name table.now) self.old.client.provider self.new.client.provider (state_of self.old.client.slots self.old.client.floor) (state_of self.new.client.slots self.new.client.floor) self.new.tokens.items (report_of result) }
     {
         match self.client.publish(name, table) {
             Ok(edition) => Outcome::Published { edition },
@@ -83,7 +83,7 @@ impl<P: Publishing> Session<P> {
 
     // Makes one entry of a list.
     fn post(&mut self, entry: &Entry) -> Outcome
-        ensures { ClientInOrder P.Provider self.old.client.provider (state_of self.old.client.slots self.old.client.floor) → Matches self.old.tokens.items (state_of self.old.client.slots self.old.client.floor) → Posted P.Provider P.Publishing (entry_of entry.now) self.old.client.provider self.new.client.provider (state_of self.old.client.slots self.old.client.floor) (state_of self.new.client.slots self.new.client.floor) self.new.tokens.items (report_of result) }
+        ensures { ClientInOrder P.Provider self.old.client.provider (state_of self.old.client.slots self.old.client.floor) → Matches self.old.tokens.items (state_of self.old.client.slots self.old.client.floor) → Posted P.Provider P.Publishing.own (entry_of entry.now) self.old.client.provider self.new.client.provider (state_of self.old.client.slots self.old.client.floor) (state_of self.new.client.slots self.new.client.floor) self.new.tokens.items (report_of result) }
     {
         match entry {
             Entry::Call { call } => self.perform(*call),
@@ -98,8 +98,8 @@ pub fn replay_publishing<P: Publishing + Drop>(
     provider: P,
     entries: &[Entry],
 ) -> Result<(Vec<Outcome>, P), AllocError>
-    ensures replayed { P.Provider.in_order provider → IfOk result (λ v. Replayed (publishing_source P.Provider P.Publishing) provider v.1 (map entry_of entries.now) (map report_of v.0.items)) }
-    ensures every { HistoriesStand (publishing_source P.Provider P.Publishing) provider }
+    ensures replayed { P.Provider.in_order provider → IfOk result (λ v. Replayed (publishing_source P.Provider P.Publishing.own) provider v.1 (map entry_of entries.now) (map report_of v.0.items)) }
+    ensures every { HistoriesStand (publishing_source P.Provider P.Publishing.own) provider }
 {
     let mut outcomes = Vec::with_capacity(heap, entries.len())?;
     let mut session = Session::new(heap, provider)?;

@@ -12,5 +12,5 @@ pub fn histories_stand<P: Provider>(provider: &P)
 
 /// The same with publications.
 pub fn publishing_histories_stand<P: Publishing>(provider: &P)
-    ensures { HistoriesStand (publishing_source P.Provider P.Publishing) provider.now }
+    ensures { HistoriesStand (publishing_source P.Provider P.Publishing.own) provider.now }
 {}
