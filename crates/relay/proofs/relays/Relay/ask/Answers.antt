@@ -11,7 +11,7 @@ returns g c =
     let s' = c.fetch-reply.new.self in
     let w = c.args.self.now.scratch in
     let w' = c.fetch-reply.new.place in
-    let is = c.request-below-sent.ensures in
+    let is = c.request_below-sent.ensures in
     record {
       relayed = record {
         reply = c.fetch-reply.result;

@@ -34,10 +34,10 @@ returns c =
     let slot = c.args.self.now in
     let v = slot.window in
     let i = c.args.interval in
-    let w = sym c.if-not-is-within.ensures in
+    let w = sym c.if-not-is_within.ensures in
     let small = cut_of_window v.interval (vec_items v.rows) i (record { begins = v.begins; joined = v.joined; ends = v.ends; small = v.small }) v.few w in
-    let done = cut_done c.cut-window.result (vec_items v.rows) i c.args.spare.now c.cut-window.new.place (c.cut-window.ensures.told ∙ cut_fits v.interval (vec_items v.rows) i w small) c.cut-window.ensures.leaves in
+    let done = cut_done c.cut_window.result (vec_items v.rows) i c.args.spare.now c.cut_window.new.place (c.cut_window.ensures.told ∙ cut_fits v.interval (vec_items v.rows) i w small) c.cut_window.ensures.leaves in
     record {
       told = contains slot c.in-Some.version i c.args.edition slot.held c.in-Some.is w;
-      after = ap (λ (y : Window). holding slot c.in-Some.version i c.args.edition c.in-Some.version.tag y.interval (vec_items y.rows)) c.swap.ensures.x-after ∙ renews slot c.in-Some.version i c.args.edition slot.held c.cut-window.new.place c.in-Some.is w done;
+      after = ap (λ (y : Window). holding slot c.in-Some.version i c.args.edition c.in-Some.version.tag y.interval (vec_items y.rows)) c.swap.ensures.x_after ∙ renews slot c.in-Some.version i c.args.edition slot.held c.cut_window.new.place c.in-Some.is w done;
     }

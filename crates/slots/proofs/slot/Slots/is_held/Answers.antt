@@ -13,4 +13,4 @@ held (Some v) w = refl
 pub returns : goal.returns
 returns c =
     let slot = c.index.result.now in
-    c.is-some.ensures ∙ held slot.held slot.window ∙ ap (λ (x : Cell). is_some x.copy) (sym (cell_there c.args.self.now c.args.i slot c.requires c.index.ensures))
+    c.is_some.ensures ∙ held slot.held slot.window ∙ ap (λ (x : Cell). is_some x.copy) (sym (cell_there c.args.self.now c.args.i slot c.requires c.index.ensures))

@@ -17,6 +17,6 @@ returns-then-i-ge16 c =
 pub returns : goal.returns
 returns c =
     record {
-      told = c.is-pending.ensures ∙ ap (λ (x : Cell). is_pending x.pending c.args.interval) (sym (cell_there c.args.self.now c.args.i c.index.result.now c.if-i-ge16.false c.index.ensures));
+      told = c.is_pending.ensures ∙ ap (λ (x : Cell). is_pending x.pending c.args.interval) (sym (cell_there c.args.self.now c.args.i c.index.result.now c.if-i-ge16.false c.index.ensures));
       within = λ _. c.if-i-ge16.false;
     }

@@ -23,4 +23,4 @@ asked s n t k cell r v p c q =
 pub returns : goal.returns
 returns c floor =
     let slot = c.index.result.now in
-    asked (state_of c.args.self.now floor) c.args.name c.args.at.0 c.in-Some.i (cell_of slot) c.query.result (sym c.if-not-is-valid.ensures) (sym c.in-Some.ensures.place) (cell_there c.args.self.now c.in-Some.i slot c.in-Some.ensures.within c.index.ensures) (c.query.ensures (state_of c.args.self.now floor))
+    asked (state_of c.args.self.now floor) c.args.name c.args.at.0 c.in-Some.i (cell_of slot) c.query.result (sym c.if-not-is_valid.ensures) (sym c.in-Some.ensures.place) (cell_there c.args.self.now c.in-Some.i slot c.in-Some.ensures.within c.index.ensures) (c.query.ensures (state_of c.args.self.now floor))

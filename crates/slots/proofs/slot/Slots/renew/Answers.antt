@@ -14,12 +14,12 @@ unrenewed i e cell (Some c) h = rw h
 pub returns : goal.returns
 returns c =
     let s = c.args.self.now in
-    let old = c.slot-mut.result.now in
-    let there = cell_there s c.args.i old c.requires c.slot-mut.ensures.value in
+    let old = c.slot_mut.result.now in
+    let there = cell_there s c.args.i old c.requires c.slot_mut.ensures.value in
     record {
       told = c.renew.ensures.told ∙ ap (λ (x : Cell). can_renew c.args.interval x.copy) (sym there);
-      after = cell_made s c.args.i old c.renew.new.self (λ (x : Cell). renewal c.args.interval c.args.edition x x.copy) c.requires c.slot-mut.ensures.value c.renew.ensures.after;
+      after = cell_made s c.args.i old c.renew.new.self (λ (x : Cell). renewal c.args.interval c.args.edition x x.copy) c.requires c.slot_mut.ensures.value c.renew.ensures.after;
       same = λ f.
           let none = unrenewed c.args.interval c.args.edition (cell_of old) (cell_of old).copy (sym c.renew.ensures.told ∙ f) in
-          cell_made s c.args.i old c.renew.new.self (λ x. x) c.requires c.slot-mut.ensures.value (c.renew.ensures.after ∙ none) ∙ set-get_or (cells_of s) c.args.i free;
+          cell_made s c.args.i old c.renew.new.self (λ x. x) c.requires c.slot_mut.ensures.value (c.renew.ensures.after ∙ none) ∙ set-get_or (cells_of s) c.args.i free;
     }

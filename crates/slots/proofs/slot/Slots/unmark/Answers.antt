@@ -20,10 +20,10 @@ held_too o (Some v) w e = refl
 
 pub returns-in-None : goal.returns-in-None
 returns-in-None c =
-    let old = c.slot-mut-slot.result.now in
-    cell_made c.args.self.now c.args.i old (record { owner = None; held = old.held; pending = None; window = old.window }) (λ (x : Cell). unmarked x x.copy) c.requires c.slot-mut-slot.ensures.value (only_reserved old old.held c.in-None.is)
+    let old = c.slot_mut-slot.result.now in
+    cell_made c.args.self.now c.args.i old (record { owner = None; held = old.held; pending = None; window = old.window }) (λ (x : Cell). unmarked x x.copy) c.requires c.slot_mut-slot.ensures.value (only_reserved old old.held c.in-None.is)
 
 pub returns-in-Some : goal.returns-in-Some
 returns-in-Some c =
-    let old = c.slot-mut-slot.result.now in
-    cell_made c.args.self.now c.args.i old (record { owner = old.owner; held = old.held; pending = None; window = old.window }) (λ (x : Cell). unmarked x x.copy) c.requires c.slot-mut-slot.ensures.value (held_too old old.held c.in-Some.field-0 c.in-Some.is)
+    let old = c.slot_mut-slot.result.now in
+    cell_made c.args.self.now c.args.i old (record { owner = old.owner; held = old.held; pending = None; window = old.window }) (λ (x : Cell). unmarked x x.copy) c.requires c.slot_mut-slot.ensures.value (held_too old old.held c.in-Some.field-0 c.in-Some.is)
