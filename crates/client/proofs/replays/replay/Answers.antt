@@ -12,41 +12,41 @@ use Rattle.slots.specs.Seeing.{state_of}
 use Rattle.client.proofs.Starting.{agrees_new, matches_new, starts, goes_on}
 use Rattle.client.proofs.replays.replay.Goals as goal
 
-pub returns-in-err-outcomes : goal.returns-in-err-outcomes
-returns-in-err-outcomes g c = record { replayed = λ o. IfOk-from_err c.from-residual.result _ c.from-residual.ensures.0; every = histories_stand (source g.P.Provider) c.args.provider }
+pub returns-in_err-outcomes : goal.returns-in_err-outcomes
+returns-in_err-outcomes g c = record { replayed = λ o. IfOk-from_err c.from_residual.result _ c.from_residual.ensures.0; every = histories_stand (source g.P.Provider) c.args.provider }
 
-pub returns-in-err-session : goal.returns-in-err-session
-returns-in-err-session g c = record { replayed = λ o. IfOk-from_err c.from-residual-in-err-session.result _ c.from-residual-in-err-session.ensures.0; every = histories_stand (source g.P.Provider) c.args.provider }
+pub returns-in_err-session : goal.returns-in_err-session
+returns-in_err-session g c = record { replayed = λ o. IfOk-from_err c.from_residual-in_err-session.result _ c.from_residual-in_err-session.ensures.0; every = histories_stand (source g.P.Provider) c.args.provider }
 
 pub loop-call-init : goal.loop-call-init
 loop-call-init g c =
-    let session = c.in-ok-session.session in
-    let new = c.in-ok-session.ensures in
+    let session = c.in_ok-session.session in
+    let new = c.in_ok-session.ensures in
     let s = state_of session.client.slots session.client.floor in
-    let made = c.in-ok-outcomes.ensures in
-    (made.len, made.capacity, λ o. (record { order = o; agrees = agrees_new (meaning g.P.Provider session.client.provider) s new.1 }, matches_new (vec_items session.tokens) s new.2 new.1, starts (source g.P.Provider) session.client.provider s (map report_of (vec_items c.in-ok-outcomes.outcomes)) new.1 (ap (map report_of) made.items)))
+    let made = c.in_ok-outcomes.ensures in
+    (made.len, made.capacity, λ o. (record { order = o; agrees = agrees_new (meaning g.P.Provider session.client.provider) s new.1 }, matches_new (vec_items session.tokens) s new.2 new.1, starts (source g.P.Provider) session.client.provider s (map report_of (vec_items c.in_ok-outcomes.outcomes)) new.1 (ap (map report_of) made.items)))
 
 pub loop-call-preserved : goal.loop-call-preserved
 loop-call-preserved g c =
     let before = c.loop-call.session in
     let after = c.perform-outcome.new.self in (
       omega arith,
-      omega (arith, c.push-reserved.ensures.capacity),
+      omega (arith, c.push_reserved.ensures.capacity),
       λ o.
           let was = c.loop-call.invariant.2 o in
           let did = c.perform-outcome.ensures was.0 was.1 in
           let sound = g.met.P.Provider.sound before.client.provider was.0.order in (
             did.order,
             did.matches,
-            goes_on (source g.P.Provider) _ before.client.provider after.client.provider call_of report_of c.args.calls.now (vec_items c.loop-call.outcomes) (vec_items c.push-reserved.new.self) c.loop-call.call-index _ c.perform-outcome.result (state_of before.client.slots before.client.floor) (state_of after.client.slots after.client.floor) c.loop-call-test.true c.push-reserved.ensures.items
+            goes_on (source g.P.Provider) _ before.client.provider after.client.provider call_of report_of c.args.calls.now (vec_items c.loop-call.outcomes) (vec_items c.push_reserved.new.self) c.loop-call.call-index _ c.perform-outcome.result (state_of before.client.slots before.client.floor) (state_of after.client.slots after.client.floor) c.loop-call-test.true c.push_reserved.ensures.items
                 (record { order = was.0.order; sound = sound; moves = did.moves; keeps = did.keeps; told = did.told }) was.2,
           ),
     )
 
 pub returns : goal.returns
 returns g c =
-    let session = c.in-ok-session.session in
-    let new = c.in-ok-session.ensures in
+    let session = c.in_ok-session.session in
+    let new = c.in_ok-session.ensures in
     let src = source g.P.Provider in
     record {
       replayed = λ o.

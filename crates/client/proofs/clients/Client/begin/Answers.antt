@@ -23,23 +23,23 @@ passes s s' q told span next r t h c =
     let p = checked_answer {X = Unit {0}} q span (answered tt) tt (sym (subst (λ (x : Interval). ◌≡◌ {A = Outcome (Unit {0})} (answered tt) (checked q x (answered tt))) t h)) in
     ap (settled s) (checked_next q span next p.0) ∙ c
 
-pub returns-in-err-check : goal.returns-in-err-check
-returns-in-err-check g c =
-    let p = err_from_is_err_and c.from-residual.result c.from-residual.ensures.1 in
+pub returns-in_err-check : goal.returns-in_err-check
+returns-in_err-check g c =
+    let p = err_from_is_err_and c.from_residual.result c.from_residual.ensures.1 in
     let self = c.args.self.now in
     let m = meaning g.P.Provider self.provider in
     let s = state_of self.slots self.floor in
-    let t = declines s (record { name = c.args.name; interval = c.args.interval; known = 0 }) c.span.result m.span (begun s c.args.name c.args.interval (place_of s c.args.name)) _ _ c.span.ensures c.in-err-check.ensures in
+    let t = declines s (record { name = c.args.name; interval = c.args.interval; known = 0 }) c.span.result m.span (begun s c.args.name c.args.interval (place_of s c.args.name)) _ _ c.span.ensures c.in_err-check.ensures in
     rw (p.1, p.2) (record { told = t; unspent = tt; within = tt; provider = refl; order = ordered g.P.Provider self.provider self.provider s s _ _ (begin_agrees m s c.args.name c.args.interval) t refl })
 
-pub returns-in-err-slot : goal.returns-in-err-slot
-returns-in-err-slot g c =
-    let p = err_from_is_err_and c.from-residual-in-err-slot.result c.from-residual-in-err-slot.ensures.1 in
+pub returns-in_err-slot : goal.returns-in_err-slot
+returns-in_err-slot g c =
+    let p = err_from_is_err_and c.from_residual-in_err-slot.result c.from_residual-in_err-slot.ensures.1 in
     let self = c.args.self.now in
     let m = meaning g.P.Provider self.provider in
     let s = state_of self.slots self.floor in
     let s' = state_of c.begin.new.self self.floor in
-    let t = passes s s' (record { name = c.args.name; interval = c.args.interval; known = 0 }) c.span.result m.span (begun s c.args.name c.args.interval (place_of s c.args.name)) _ c.span.ensures c.in-ok-check.ensures (c.in-err-slot.ensures.told self.floor) in
+    let t = passes s s' (record { name = c.args.name; interval = c.args.interval; known = 0 }) c.span.result m.span (begun s c.args.name c.args.interval (place_of s c.args.name)) _ c.span.ensures c.in_ok-check.ensures (c.in_err-slot.ensures.told self.floor) in
     rw (p.1, p.2) (record { told = t; unspent = tt; within = tt; provider = refl; order = ordered g.P.Provider self.provider self.provider s s' _ _ (begin_agrees m s c.args.name c.args.interval) t refl })
 
 pub returns : goal.returns
@@ -48,5 +48,5 @@ returns g c =
     let m = meaning g.P.Provider self.provider in
     let s = state_of self.slots self.floor in
     let s' = state_of c.begin.new.self self.floor in
-    let t = passes s s' (record { name = c.args.name; interval = c.args.interval; known = 0 }) c.span.result m.span (begun s c.args.name c.args.interval (place_of s c.args.name)) _ c.span.ensures c.in-ok-check.ensures (c.in-ok-slot.ensures.told self.floor) in
-    record { told = t; unspent = refl; within = c.in-ok-slot.ensures.within; provider = refl; order = ordered g.P.Provider self.provider self.provider s s' _ _ (begin_agrees m s c.args.name c.args.interval) t refl }
+    let t = passes s s' (record { name = c.args.name; interval = c.args.interval; known = 0 }) c.span.result m.span (begun s c.args.name c.args.interval (place_of s c.args.name)) _ c.span.ensures c.in_ok-check.ensures (c.in_ok-slot.ensures.told self.floor) in
+    record { told = t; unspent = refl; within = c.in_ok-slot.ensures.within; provider = refl; order = ordered g.P.Provider self.provider self.provider s s' _ _ (begin_agrees m s c.args.name c.args.interval) t refl }

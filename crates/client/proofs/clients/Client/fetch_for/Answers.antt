@@ -13,12 +13,12 @@ use Rattle.client.proofs.Agreement.{keeps_same, agrees_keeps, collected_agrees}
 use Rattle.client.proofs.Collecting.{took, token_is, agrees_on, none_asked, asked_none, asked_some}
 use Rattle.client.proofs.clients.Client.fetch_for.Goals as goal
 
-pub returns-in-default : goal.returns-in-default
-returns-in-default g c =
+pub returns-in_default : goal.returns-in_default
+returns-in_default g c =
     let self = c.args.self.now in
     let s = state_of self.slots self.floor in
     let m = meaning g.P.Provider self.provider in
-    let none = c.in-default.ensures in
+    let none = c.in_default.ensures in
     record {
       asked = asked_none g.P.Provider s c.args.slot c.args.interval self.provider (sym none);
       told = λ o. record { told = none_asked m s c.args.slot c.args.interval (sym none); keeps = keeps_same m; order = o };

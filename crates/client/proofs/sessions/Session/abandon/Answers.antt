@@ -12,7 +12,7 @@ returns-in-Ok g c o h =
     let tokens = c.args.self.now.tokens in
     let long : length (vec_items tokens) ≡ 16 = omega (arith, tokens.ok.0, c.args.self.now.all) in
     let l = c.in-Some.ensures.within in
-    let here : Some c.in-Some-take.pending ≡ get_or (vec_items tokens) c.in-Some.slot None = sym c.in-Some-take.is ∙ c.take.ensures.value ∙ get_or_read (vec_items tokens) c.in-Some.slot c.index-mut.result.now (omega arith) c.index-mut.ensures.value None in
+    let here : Some c.in-Some-take.pending ≡ get_or (vec_items tokens) c.in-Some.slot None = sym c.in-Some-take.is ∙ c.take.ensures.value ∙ get_or_read (vec_items tokens) c.in-Some.slot c.index_mut.result.now (omega arith) c.index_mut.ensures.value None in
     abandon_done g.P.Provider client.provider c.abandon.new.self.provider (state_of client.slots client.floor) (state_of c.abandon.new.self.slots c.abandon.new.self.floor) (vec_items tokens) c.args.name c.in-Some.slot c.in-Some-take.pending long (cells_length client.slots) l (sym c.in-Some.ensures.place) here o h c.take.new.self c.take.ensures.after c.in-Ok.ensures.told c.in-Ok.ensures.provider
 
 pub returns-in-Err : goal.returns-in-Err
@@ -21,5 +21,5 @@ returns-in-Err g c o h =
     let tokens = c.args.self.now.tokens in
     let long : length (vec_items tokens) ≡ 16 = omega (arith, tokens.ok.0, c.args.self.now.all) in
     let l = c.in-Some.ensures.within in
-    let here : Some c.in-Some-take.pending ≡ get_or (vec_items tokens) c.in-Some.slot None = sym c.in-Some-take.is ∙ c.take.ensures.value ∙ get_or_read (vec_items tokens) c.in-Some.slot c.index-mut.result.now (omega arith) c.index-mut.ensures.value None in
+    let here : Some c.in-Some-take.pending ≡ get_or (vec_items tokens) c.in-Some.slot None = sym c.in-Some-take.is ∙ c.take.ensures.value ∙ get_or_read (vec_items tokens) c.in-Some.slot c.index_mut.result.now (omega arith) c.index_mut.ensures.value None in
     abandon_refused g.P.Provider client.provider c.abandon.new.self.provider (state_of client.slots client.floor) (state_of c.abandon.new.self.slots c.abandon.new.self.floor) (vec_items tokens) c.args.name c.in-Some.slot c.in-Some-take.pending long (cells_length client.slots) l (sym c.in-Some.ensures.place) here o h _ _ _ _ c.in-Err.ensures.told

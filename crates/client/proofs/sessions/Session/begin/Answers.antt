@@ -16,8 +16,8 @@ returns-in-Some g c o h =
     let p = c.in-Ok.pending in
     (begin_done g.P.Provider client.provider c.begin.new.self.provider (state_of client.slots client.floor) (state_of c.begin.new.self.slots c.begin.new.self.floor) (vec_items tokens) c.args.name c.args.interval p.slot p c.replace.new.self (omega (arith, tokens.ok.0, c.args.self.now.all)) (cells_length client.slots) c.in-Ok.ensures.within refl c.in-Ok.ensures.unspent c.replace.ensures.after c.in-Ok.ensures.told c.in-Ok.ensures.provider o h).1
 
-pub returns-in-default : goal.returns-in-default
-returns-in-default g c o h =
+pub returns-in_default : goal.returns-in_default
+returns-in_default g c o h =
     let client = c.args.self.now.client in
     let tokens = c.args.self.now.tokens in
     let p = c.in-Ok.pending in
