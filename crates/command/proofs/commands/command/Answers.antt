@@ -14,4 +14,4 @@ settled line first others r f o p q h =
     rw (p', q') h'
 
 pub returns-else-same-2 : goal.returns-else-same-2
-returns-else-same-2 c = settled c.args.line.now _ _ _ c.split-word.ensures.first c.split-word.ensures.others c.if-same.ensures c.if-same-2.ensures c.setting.ensures
+returns-else-same-2 c = settled c.args.line.now _ _ _ c.split_word.ensures.first c.split_word.ensures.others c.if-same.ensures c.if-same-2.ensures c.setting.ensures

@@ -7,4 +7,4 @@ abbrev with_bytes : List ℕ → Name
 with_bytes bs = record { bytes = bs }
 
 pub returns : goal.returns
-returns c = ap with_bytes c.from-text.ensures
+returns c = ap with_bytes c.from_text.ensures

@@ -4,15 +4,15 @@ use Rattle.command.specs.Numbers.{number}
 use Rattle.command.proofs.Parsing.{parsed, unread, plus_none}
 use Rattle.command.proofs.numbers.parse_i64.Goals as goal
 
-pub returns-then-has-plus : goal.returns-then-has-plus
-returns-then-has-plus c = sym (plus_none 63 c.args.word.now (sym c.if-has-plus.ensures))
+pub returns-then-has_plus : goal.returns-then-has_plus
+returns-then-has_plus c = sym (plus_none 63 c.args.word.now (sym c.if-has_plus.ensures))
 
 pub returns-in-Ok : goal.returns-in-Ok
 returns-in-Ok c =
     let word = c.args.word.now in
     let text = c.in-Ok.text.now in
     let same : text ≡ word = c.in-Ok.ensures.cases.0 in
-    let plain : eqb (get_or text 0 0) 43 ≡ false = ap (λ (bs : List ℕ). eqb (get_or bs 0 0) 43) same ∙ sym c.if-has-plus.ensures in
+    let plain : eqb (get_or text 0 0) 43 ≡ false = ap (λ (bs : List ℕ). eqb (get_or bs 0 0) 43) same ∙ sym c.if-has_plus.ensures in
     c.ok.ensures.value ∙ parsed w64 text c.parse.result c.parse.ensures.value.0 (eqb-false _ _ plain) ∙ ap (number 63) same
 
 pub returns-in-Err : goal.returns-in-Err

@@ -10,9 +10,9 @@ returns-then-not-understood c =
     let rest = c.loop-rest.rest.now in
     let full : 0 < length rest = omega arith in
     let d = read_of c.loop-rest.draft in
-    let e = read_of c.read-line.new.self in
+    let e = read_of c.read_line.new.self in
     let line = c.split.result.0.now in
-    let h : None ≡ line_read d line = ap (λ (b : Bool). told b e) (sym c.if-not-understood.true) ∙ c.in-ok-understood.ensures in
+    let h : None ≡ line_read d line = ap (λ (b : Bool). told b e) (sym c.if-not-understood.true) ∙ c.in_ok-understood.ensures in
     ap ended (sym c.loop-rest.invariant.0 ∙ text_off rest line c.split.result.1.now (c.loop-rest.number + 1) d full c.split.ensures.front c.split.ensures.back h)
 
 pub loop-rest-preserved : goal.loop-rest-preserved
@@ -20,9 +20,9 @@ loop-rest-preserved c =
     let rest = c.loop-rest.rest.now in
     let full : 0 < length rest = omega arith in
     let d = read_of c.loop-rest.draft in
-    let e = read_of c.read-line.new.self in
+    let e = read_of c.read_line.new.self in
     let line = c.split.result.0.now in
-    let h : Some e ≡ line_read d line = ap (λ (b : Bool). told b e) (sym c.if-not-understood.false) ∙ c.in-ok-understood.ensures in (
+    let h : Some e ≡ line_read d line = ap (λ (b : Bool). told b e) (sym c.if-not-understood.false) ∙ c.in_ok-understood.ensures in (
       sym (text_on rest line c.split.result.1.now (c.loop-rest.number + 1) d e full c.split.ensures.front c.split.ensures.back h) ∙ c.loop-rest.invariant.0,
       omega (arith, c.split.ensures.shorter full, c.loop-rest.invariant.1),
     )

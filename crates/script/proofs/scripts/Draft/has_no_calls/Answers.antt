@@ -6,4 +6,4 @@ use Rattle.script.proofs.scripts.Draft.has_no_calls.Goals as goal
 pub returns : goal.returns
 returns c =
     let v = c.args.self.now.entries in
-    c.is-empty.ensures ∙ ap (λ (n : ℕ). eqb n 0) (v.ok.0 ∙ sym (length-map (vec_items v) listed_of))
+    c.is_empty.ensures ∙ ap (λ (n : ℕ). eqb n 0) (v.ok.0 ∙ sym (length-map (vec_items v) listed_of))
