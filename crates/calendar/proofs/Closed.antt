@@ -1,8 +1,8 @@
 -- The days before a year and before a month in closed form, and the bounds of a first guess.
-use Rattle.std.proofs.Common.{◌≡◌, ℕ, zero, suc, ◌+◌, ◌-◌, ◌*◌, ◌/◌, ◌%◌, ◌<◌, ◌≤◌, Bool, true, false, cond, ◌&&◌, eqb, ltb, leb, ◌⊎◌, List, [], ◌∷◌, get_or, Decides, sym, refl, ap, ◌∙◌, inl, inr, arith}
+use Rattle.std.proofs.Common.{◌≡◌, ℕ, zero, suc, ◌+◌, ◌-◌, ◌*◌, ◌/◌, ◌<◌, ◌≤◌, Bool, true, false, cond, ◌&&◌, eqb, ltb, leb, ◌⊎◌, [], ◌∷◌, get_or, Decides, refl, ap, ◌∙◌, inl, inr, arith}
 use Rattle.std.proofs.lemmas.Bool.{leb-true, le-leb}
 use Rattle.std.proofs.lemmas.Bool.Decides.{nat_tests, Decides-and, Decides-eqb, Decides-below_and}
-use Rattle.calendar.specs.Calendar.{leap, year_days, month_days, sum_below, sum_between, days_before_year, days_before_month}
+use Rattle.calendar.specs.Calendar.{leap, year_days, sum_below, days_before_year, days_before_month}
 use Rattle.calendar.proofs.Sum.{between_ge, between_le, year_days_ge, year_days_le}
 
 -- one more year

@@ -1,5 +1,5 @@
 -- Each second in range has a valid stamp, and each valid stamp has its seconds in range.
-use Rattle.std.proofs.Common.{◌≡◌, ℕ, suc, ◌+◌, ◌-◌, ◌*◌, ◌/◌, ◌%◌, ◌<◌, ◌≤◌, ℤ, pos, negsuc, ◌-ℤ◌, sym, refl, ap, ◌∙◌, arith}
+use Rattle.std.proofs.Common.{◌≡◌, ℕ, suc, ◌+◌, ◌-◌, ◌*◌, ◌/◌, ◌%◌, ◌<◌, ◌≤◌, ℤ, pos, negsuc, arith}
 use Rattle.std.proofs.lemmas.Int.{ints}
 use Rattle.calendar.specs.declared.dates.Stamp.{Stamp}
 use Rattle.calendar.specs.Calendar.{year_days, month_days, days_before_year, days_before_month, Valid, seconds_from_1899, seconds, InRange}

@@ -1,18 +1,17 @@
 -- What a client holds goes on agreeing with its provider. Assumes nothing.
-use Rattle.std.proofs.Common.{◌≡◌, ℕ, ◌<◌, ◌≤◌, Bool, true, false, cond, eqb, ltb, leb, ◌≢◌, ◌⊎◌, List, [], ◌∷◌, length, get_or, set, Some, None, Option, sym, refl, ap, ◌∙◌, subst, inl, inr, arith}
+use Rattle.std.proofs.Common.{◌≡◌, ℕ, true, cond, eqb, ltb, leb, List, [], ◌∷◌, length, get_or, set, Some, None, Option, sym, refl, ap, ◌∙◌, subst, inl, inr, arith}
 use Rattle.std.proofs.lemmas.List.{get_or-set_same, get_or-set_other, set_past}
 use Rattle.std.proofs.lemmas.Bool.{cases_eq, cases_lt, cond_both}
 use Rattle.names.specs.declared.name.Name.{Name}
 use Rattle.zone.specs.declared.rows.Interval.{Interval}
 use Rattle.zone.specs.Intervals.{within}
 use Rattle.zone.specs.Rows.{window_rows}
-use Rattle.zone.specs.Refusals.{Outcome, answered, refused}
 use Rattle.cutting.specs.Cutting.{cut}
 use Rattle.provider.specs.Meaning.{Meaning, Page, Keeps, Sound}
 use Rattle.provider.proofs.Held.{held_on}
 use Rattle.history.specs.Cells.{Copy, Cell, State, free, cell_at}
-use Rattle.history.specs.Steps.{Step, stays, handed_back, settled, accepted, taken, collected_at}
-use Rattle.client.specs.Agreeing.{Copied, Ready, CopiedIf, ReadyIf, CellAgrees, Agrees}
+use Rattle.history.specs.Steps.{stays, handed_back, accepted, taken, collected_at}
+use Rattle.client.specs.Agreeing.{Ready, CopiedIf, ReadyIf, CellAgrees, Agrees}
 
 -- nothing changes what is kept
 pub keeps_same : (m : Meaning) → Keeps m m

@@ -5,12 +5,12 @@ use Rattle.std.proofs.lemmas.Bool.{cases_eq}
 use Rattle.names.specs.declared.name.Name.{Name}
 use Rattle.zone.specs.declared.rows.Interval.{Interval}
 use Rattle.provider.specs.declared.providers.Provider.{Ghosts}
-use Rattle.provider.specs.Meaning.{Meaning, Keeps}
+use Rattle.provider.specs.Meaning.{Keeps}
 use Rattle.provider.specs.Whole.{meaning}
 use Rattle.history.specs.Cells.{Cell, State, free, place_of, cell_at, with_cell}
 use Rattle.history.specs.Histories.{Moves}
 use Rattle.history.specs.Sources.{source}
-use Rattle.history.specs.Steps.{Call, begin, collect, abandon, forget, query, Report, began, collected, abandoned, forgotten, told, declined, handed_back, Step, stays, begin_step, collected_at, collect_step, abandon_step, forget_step, query_step, unmarked, abandon_pending, abandon_place, step}
+use Rattle.history.specs.Steps.{Call, begin, collect, abandon, forget, Report, began, collected, abandoned, forgotten, declined, handed_back, Step, begin_step, collect_step, abandon_step, forget_step, unmarked, abandon_pending, abandon_place, step}
 use Rattle.history.proofs.Places.{clash}
 use Rattle.client.specs.declared.pending.PendingFetch.{PendingFetch}
 use Rattle.client.specs.Agreeing.{Agrees}

@@ -1,6 +1,6 @@
 -- What the client makes of a reply is what the rules say of the collect. Assumes nothing.
-use Rattle.std.proofs.Common.{◌≡◌, ℕ, ◌<◌, ◌≤◌, Bool, true, false, cond, eqb, ltb, leb, List, [], ◌∷◌, length, Some, None, Ok, Err, vec_items, MatchBool, Option, Result, sym, refl, ap, ◌∙◌, subst, arith}
-use Rattle.std.proofs.lemmas.Bool.{le-leb, ne_eqb, eqb-true, eqb-false, and_parts}
+use Rattle.std.proofs.Common.{◌≡◌, ℕ, ◌≤◌, Bool, true, false, cond, eqb, ltb, leb, List, [], ◌∷◌, length, Some, None, Ok, Err, vec_items, MatchBool, Option, Result, sym, refl, ap, ◌∙◌, subst, arith}
+use Rattle.std.proofs.lemmas.Bool.{le-leb, ne_eqb}
 use Rattle.names.specs.declared.name.Name.{Name}
 use Rattle.zone.specs.declared.refusals.Refusal.{Refusal}
 use Rattle.zone.specs.declared.refusals.Refusal.TheVariants.{BadName, BadInterval, OutsideSpan, Silent, NoPage, TooManyRows, BelowFloor, AlreadyPending, NoFreeSlot, NotPending, NotHeld, OutsideWindow, NotATable, DoesNotFit, BadText, BufferTooShort}
@@ -8,7 +8,7 @@ use Rattle.zone.specs.declared.rows.Interval.{Interval}
 use Rattle.zone.specs.declared.rows.Row.{Row}
 use Rattle.zone.specs.declared.windows.Window.{Window}
 use Rattle.zone.specs.Intervals.{same_interval, within}
-use Rattle.zone.specs.Refusals.{Outcome, answered, refused, number, values}
+use Rattle.zone.specs.Refusals.{answered, refused, number, values}
 use Rattle.zone.specs.Rows.{window_rows}
 use Rattle.zone.proofs.Testing.{decides_interval}
 use Rattle.cutting.specs.Cutting.{cut}
@@ -16,13 +16,12 @@ use Rattle.provider.specs.declared.providers.Provider.{Ghosts}
 use Rattle.provider.specs.declared.requests.Reply.{Reply}
 use Rattle.provider.specs.declared.requests.Reply.TheVariants.{Unchanged, Fresh}
 use Rattle.provider.specs.declared.requests.Request.{Request}
-use Rattle.provider.specs.Fetching.{Answer, unchanged, fresh, page_answer, edition_answer, turn_answer, fetched, judged, Leaves}
-use Rattle.provider.specs.Laws.{Answering}
+use Rattle.provider.specs.Fetching.{unchanged, fresh, edition_answer, turn_answer, fetched, judged, Leaves}
 use Rattle.provider.specs.Meaning.{Meaning, Page, Sound}
 use Rattle.provider.proofs.Held.{held_cut}
-use Rattle.provider.proofs.Checks.{Passes, checked_next, answers_come_from_pages}
+use Rattle.provider.proofs.Checks.{checked_next, answers_come_from_pages}
 use Rattle.history.specs.Cells.{Copy, Cell, State, cell_at}
-use Rattle.history.specs.Steps.{Report, handed_back, Step, stays, known_tag, accepted, taken, collected_at}
+use Rattle.history.specs.Steps.{handed_back, Step, stays, known_tag, accepted, taken, collected_at}
 use Rattle.client.specs.Agreeing.{Copied, Ready, CopiedIf, ReadyIf, CellAgrees, Agrees}
 use Rattle.client.specs.Following.{AskedBy, Asked}
 use Rattle.slots.specs.Taking.{can_renew, renewed, renewal, floored, holds, take_unchanged, take_fresh, take_reply}

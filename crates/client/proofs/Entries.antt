@@ -3,7 +3,7 @@ use Rattle.std.proofs.Common.{◌≡◌, ℕ, Bool, false, List, Ok, Err, Option
 use Rattle.names.specs.declared.name.Name.{Name}
 use Rattle.zone.specs.declared.refusals.Refusal.{Refusal}
 use Rattle.zone.specs.declared.windows.Table.{Table}
-use Rattle.zone.specs.Refusals.{Outcome, outcome, number, values}
+use Rattle.zone.specs.Refusals.{outcome}
 use Rattle.provider.specs.declared.providers.Provider.{Ghosts}
 use Rattle.provider.specs.declared.publishing.Publishing.{Ghosts as PublishingGhosts}
 use Rattle.provider.specs.Meaning.{Meaning, Keeps, Sound}
@@ -12,7 +12,7 @@ use Rattle.provider.specs.Whole.{meaning}
 use Rattle.history.specs.Cells.{State}
 use Rattle.history.specs.Histories.{Moves}
 use Rattle.history.specs.Sources.{publishing_source, source}
-use Rattle.history.specs.Steps.{Report, announced, declined, publish, publish_report, stays, step}
+use Rattle.history.specs.Steps.{Report, publish, publish_report, stays, step}
 use Rattle.client.specs.declared.listing.Call.{Call}
 use Rattle.client.specs.declared.listing.Call.TheVariants.{Begin, Collect, Abandon, Forget, Query}
 use Rattle.client.specs.declared.pending.PendingFetch.{PendingFetch}

@@ -1,34 +1,30 @@
 -- What each call of a list does to the cells, and that the pending fetches at hand go on matching them. Assumes nothing.
-use Rattle.std.proofs.Common.{◌≡◌, ℕ, ◌<◌, Bool, true, false, cond, eqb, ltb, leb, ◌⊎◌, List, [], ◌∷◌, length, get_or, set, Some, None, MatchBool, Option, sym, refl, ap, ◌∙◌, subst, inl, inr, arith}
+use Rattle.std.proofs.Common.{◌≡◌, ℕ, ◌<◌, true, false, cond, eqb, ltb, leb, ◌⊎◌, List, [], ◌∷◌, length, get_or, set, Some, None, Option, sym, refl, ap, ◌∙◌, subst, inl, inr, arith}
 use Rattle.std.proofs.lemmas.List.{get_or-set_same, get_or-set_other}
-use Rattle.std.proofs.lemmas.Bool.{cases_eq, cond_both, false≢true}
+use Rattle.std.proofs.lemmas.Bool.{cases_eq, cond_both}
 use Rattle.std.proofs.lemmas.Bool.Decides.{when_true}
 use Rattle.names.specs.declared.name.Name.{Name}
 use Rattle.names.specs.Finding.{first_place}
 use Rattle.names.proofs.Ordered.{same_name_is}
 use Rattle.zone.specs.declared.rows.Interval.{Interval}
-use Rattle.zone.specs.Intervals.{era, same_interval, within}
+use Rattle.zone.specs.Intervals.{era, within}
 use Rattle.names.specs.Names.{is_name}
-use Rattle.zone.specs.Refusals.{Outcome, answered, refused}
+use Rattle.zone.specs.Refusals.{Outcome}
 use Rattle.zone.specs.Rows.{window_rows}
 use Rattle.zone.proofs.Testing.{decides_interval}
 use Rattle.cutting.specs.Cutting.{cut}
 use Rattle.provider.specs.declared.providers.Provider.{Ghosts}
-use Rattle.provider.specs.declared.requests.Request.{Request}
-use Rattle.provider.specs.Fetching.{checked}
 use Rattle.provider.specs.Meaning.{Meaning, Page}
 use Rattle.history.specs.Cells.{Copy, Cell, State, free, is_owner, owned_by, has_no_owner, is_free, place_of, cell_at, with_cell}
 use Rattle.history.specs.Histories.{Asks, Collects}
 use Rattle.history.specs.Sources.{source}
-use Rattle.history.specs.Steps.{Report, began, collected, abandoned, forgotten, declined, handed_back, Step, stays, settled, marked, reserved, begun, begin_step, known_tag, accepted, taken, collected_at, collect_pending, collect_place, collect_step, unmarked, abandon_pending, abandon_place, abandon_step, forgotten_at, forget_place, forget_step}
+use Rattle.history.specs.Steps.{began, collected, forgotten, declined, handed_back, Step, stays, settled, marked, reserved, begun, begin_step, taken, collected_at, collect_pending, collect_place, collect_step, unmarked, abandon_pending, abandon_place, abandon_step, forgotten_at, forget_place, forget_step}
 use Rattle.history.proofs.Places.{clash, by_option, place_some, passes_at}
 use Rattle.client.specs.declared.pending.PendingFetch.{PendingFetch}
-use Rattle.client.specs.Agreeing.{Copied, Ready, CopiedIf, ReadyIf, CellAgrees, Agrees}
+use Rattle.client.specs.Agreeing.{Ready, CopiedIf, CellAgrees, Agrees}
 use Rattle.client.specs.Following.{AskedBy, Asked}
 use Rattle.client.specs.Listing.{token_for, Matches}
 use Rattle.slots.specs.Told.{is_pending, abandon_token}
-use Rattle.client.specs.Told.{collect_token}
-use Rattle.client.proofs.Agreement.{agrees_set}
 
 -- owners
 pub owner_is : (n : Name) (o : Option Name) → is_owner n o ≡ true → o ≡ Some n

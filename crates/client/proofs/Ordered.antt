@@ -1,5 +1,5 @@
 -- Every call of the client keeps it in order. Assumes nothing.
-use Rattle.std.proofs.Common.{◌≡◌, ℕ, cond, ◌⊎◌, [], Some, sym, refl, ap, ◌∙◌, subst, inl, inr}
+use Rattle.std.proofs.Common.{◌≡◌, ℕ, ◌⊎◌, [], Some, sym, refl, subst, inl, inr}
 use Rattle.std.proofs.lemmas.Bool.{cond_both}
 use Rattle.names.specs.declared.name.Name.{Name}
 use Rattle.zone.specs.declared.rows.Interval.{Interval}

@@ -6,7 +6,7 @@ use Rattle.zone.specs.Intervals.{era, within}
 use Rattle.names.specs.Names.{is_name}
 use Rattle.provider.specs.Holding.{FromPage}
 use Rattle.provider.specs.Meaning.{Meaning}
-use Rattle.history.specs.Cells.{Copy, Cell, State, free, cell_at}
+use Rattle.history.specs.Cells.{Copy, Cell, State, cell_at}
 
 -- the copy is from the record: the cut of the page of its edition, with its tag
 abbrev pub Copied : Meaning → Name → Copy → Type 0

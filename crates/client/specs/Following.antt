@@ -1,12 +1,12 @@
 -- A client over a provider: in order, and what a collect asks. Assumes nothing.
-use Rattle.std.specs.Prelude.{◌≡◌, ℕ, Bool, true, false, cond, Some, None, MatchBool, Option}
+use Rattle.std.specs.Prelude.{◌≡◌, ℕ, Some, None, MatchBool, Option}
 use Rattle.names.specs.declared.name.Name.{Name}
 use Rattle.zone.specs.declared.rows.Interval.{Interval}
 use Rattle.provider.specs.declared.providers.Provider.{Ghosts}
-use Rattle.provider.specs.Meaning.{Meaning, Keeps}
+use Rattle.provider.specs.Meaning.{Keeps}
 use Rattle.provider.specs.Whole.{meaning}
 use Rattle.history.specs.Cells.{Copy, State, cell_at}
-use Rattle.history.specs.Steps.{Report, Step, known_tag}
+use Rattle.history.specs.Steps.{Report, known_tag}
 use Rattle.client.specs.Agreeing.{Agrees}
 use Rattle.slots.specs.Told.{ComesTo, is_pending}
 use Rattle.client.specs.Told.{collect_token}

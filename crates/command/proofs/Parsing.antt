@@ -1,5 +1,5 @@
 -- What `parse` answers, as the number that a word spells. Assumes nothing.
-use Rattle.std.proofs.Common.{◌≡◌, ℕ, ◌^◌, ◌<◌, ◌≤◌, Bool, true, false, cond, ◌&&◌, eqb, ltb, leb, List, [], ◌∷◌, length, get_or, drop, ℤ, pos, neg_ℤ, Some, None, Ok, Err, IsUtf8, IsAscii, Decides, Option, Result, sym, refl, ap, ◌∙◌, inl, inr, arith, rules}
+use Rattle.std.proofs.Common.{◌≡◌, ℕ, ◌^◌, ◌<◌, ◌≤◌, Bool, true, false, cond, ◌&&◌, eqb, ltb, leb, List, [], ◌∷◌, length, get_or, drop, ℤ, Some, None, Ok, Err, IsUtf8, IsAscii, Decides, Result, refl, ap, inl, inr, arith, rules}
 use mir.Syntax.{Width}
 use mir.Val.{hbits}
 use Rattle.std.specs.Result.{OkIff, result_ok}

@@ -1,5 +1,5 @@
 -- Lemmas on bytes that are split. Assumes nothing.
-use Rattle.std.proofs.Common.{◌≡◌, ℕ, ◌+◌, ◌<◌, ◌≤◌, true, false, eqb, List, [], ◌∷◌, ◌++◌, length, get_or, take, drop, sym, refl, ap, ◌∙◌, arith}
+use Rattle.std.proofs.Common.{◌≡◌, ℕ, ◌+◌, ◌<◌, ◌≤◌, true, false, eqb, List, [], ◌∷◌, ◌++◌, length, get_or, take, drop, sym, refl, ◌∙◌, arith}
 use Rattle.std.proofs.lemmas.List.{take_more, append_assoc, append-nil, at_drop_more, at_drop_all}
 use Rattle.command.specs.Words.{before, after, trimmed}
 

@@ -1,5 +1,5 @@
 -- The row in force in a cut, and what follows for cuts. Assumes nothing.
-use Rattle.std.proofs.Common.{◌≡◌, ◌≤◌, Bool, true, false, cond, ◌&&◌, List, [], ◌∷◌, length, ℤ, pos, negsuc, ◌+ℤ◌, ◌≤ℤ◌, ◌<ℤ◌, fold, filter, sym, refl, ap, ◌∙◌, arith}
+use Rattle.std.proofs.Common.{◌≡◌, ◌≤◌, Bool, true, false, cond, ◌&&◌, List, [], ◌∷◌, length, ℤ, ◌≤ℤ◌, ◌<ℤ◌, fold, filter, sym, refl, ap, ◌∙◌, arith}
 use lib.Signed.{lt_z, le_z}
 use Rattle.std.proofs.lemmas.Int.{ints, by_lt_z}
 use Rattle.std.specs.List.{AllByRecursion as All}
@@ -12,7 +12,7 @@ use Rattle.zone.specs.Intervals.{within, has_instant}
 use Rattle.zone.specs.Rows.{Offset, Covers}
 use Rattle.cutting.specs.Cutting.{later, in_force, opening, begins_inside, by_row, local}
 use Rattle.cutting.specs.Cutting as the
-use Rattle.cutting.specs.Laws.{CutLaws, CutsAgree}
+use Rattle.cutting.specs.Laws.{CutsAgree}
 use Rattle.cutting.proofs.Chains.{Chain, Run, Offsets, run_of, covers_of, offsets_from}
 
 -- the same, by the two ends of the interval

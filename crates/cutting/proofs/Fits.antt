@@ -3,7 +3,7 @@ use Rattle.std.proofs.Common.{◌≡◌, true, false, leb, List, [], length}
 use Rattle.zone.specs.declared.rows.Interval.{Interval}
 use Rattle.zone.specs.declared.rows.Row.{Row}
 use Rattle.zone.specs.Intervals.{within}
-use Rattle.zone.specs.Refusals.{Outcome, answered, refused}
+use Rattle.zone.specs.Refusals.{answered, refused}
 use Rattle.cutting.specs.Cutting.{cut}
 use Rattle.cutting.specs.Outcomes.{cut_outcome}
 

@@ -1,6 +1,6 @@
 -- The cut of rows to the interval that they cover. Assumes nothing.
-use Rattle.std.proofs.Common.{◌≡◌, true, false, cond, List, [], ◌∷◌, ℤ, ◌≤ℤ◌, ◌<ℤ◌, fold, filter, sym, refl, ap, ◌∙◌, arith}
-use lib.Signed.{lt_z, le_z}
+use Rattle.std.proofs.Common.{◌≡◌, false, List, [], ◌∷◌, ℤ, ◌≤ℤ◌, ◌<ℤ◌, filter, sym, refl, ap, arith}
+use lib.Signed.{lt_z}
 use Rattle.std.proofs.lemmas.Int.{ints}
 use Rattle.zone.specs.declared.rows.Interval.{Interval}
 use Rattle.zone.specs.declared.rows.Row.{Row}

@@ -1,10 +1,10 @@
 -- Worked examples: a year of Central European time. Assumes nothing.
-use Rattle.std.specs.Prelude.{◌≡◌, ℕ, true, false, List, [], ◌∷◌, ℤ, pos}
+use Rattle.std.specs.Prelude.{◌≡◌, ℕ, List, [], ◌∷◌, pos}
 use Rattle.zone.specs.declared.rows.Interval.{Interval}
 use Rattle.zone.specs.declared.rows.Row.{Row}
 use Rattle.zone.specs.declared.rows.Observance.{Observance}
 use Rattle.zone.specs.declared.rows.Observance.TheVariants.{Standard, Daylight}
-use Rattle.zone.specs.Refusals.{Outcome, answered, refused}
+use Rattle.zone.specs.Refusals.{answered, refused}
 use Rattle.zone.specs.Rows.{Sound, window_rows}
 use Rattle.cutting.specs.Cutting.{cut, local}
 use Rattle.cutting.specs.Outcomes.{local_outcome}

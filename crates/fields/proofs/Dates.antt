@@ -1,9 +1,9 @@
 -- A date with a time is read from its text, and from no other.
-use Rattle.std.proofs.Common.{◌≡◌, ℕ, ◌+◌, ◌-◌, ◌*◌, ◌/◌, ◌%◌, ◌<◌, true, ltb, leb, List, ◌∷◌, ◌++◌, Some, None, sym, refl, ap, ◌∙◌, subst, arith}
+use Rattle.std.proofs.Common.{◌≡◌, ℕ, ◌+◌, ◌-◌, ◌*◌, ◌/◌, ◌%◌, ◌<◌, true, List, ◌∷◌, ◌++◌, Some, None, sym, refl, ap, ◌∙◌, subst, arith}
 use Rattle.std.proofs.lemmas.Slice.Eq.{text_from_reads}
 use Rattle.std.proofs.lemmas.Bool.{lt-ltb, ltb-true, le-leb, leb-true, and_from, and_parts}
 use Rattle.calendar.specs.declared.dates.Stamp.{Stamp}
-use Rattle.calendar.specs.Calendar.{Valid, month_days}
+use Rattle.calendar.specs.Calendar.{Valid}
 use Rattle.calendar.proofs.Unique.{month_days_le}
 use Rattle.fields.specs.Digits.{two}
 use Rattle.fields.specs.Stamps.{is_valid, stamp_text, time_text, stamp_guess, stamp_read, DigitsSay, DigitsRead}

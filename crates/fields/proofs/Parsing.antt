@@ -1,8 +1,8 @@
 -- An offset is read from its text, and from no other.
-use Rattle.std.proofs.Common.{◌≡◌, ℕ, suc, ◌-◌, ◌<◌, true, List, ◌∷◌, get_or, ℤ, pos, negsuc, neg_ℤ, nat_abs, Some, None, Option, sym, refl, ap, ◌∙◌, subst}
+use Rattle.std.proofs.Common.{◌≡◌, ℕ, suc, ◌<◌, true, List, ◌∷◌, get_or, ℤ, pos, negsuc, neg_ℤ, nat_abs, Some, None, Option, sym, refl, ap, ◌∙◌, subst}
 use Rattle.std.proofs.lemmas.Bool.{lt-ltb, ltb-true}
 use Rattle.fields.specs.declared.types.Offset.{Offset}
-use Rattle.fields.specs.Offsets.{sign, InDay, in_day, clock_text, clock, printed, offset, offset_guess, parsed, ClockSays, ClockRead, Signed}
+use Rattle.fields.specs.Offsets.{sign, InDay, in_day, clock_text, printed, offset, offset_guess, parsed, ClockSays, ClockRead, Signed}
 use Rattle.fields.proofs.Checking.{checked_print, checked_only, checked_from}
 use Rattle.fields.proofs.Clocks.{clock_back, clock_digits, text_digits}
 

@@ -1,5 +1,5 @@
 -- The text of an offset stands at the front of its longest form, the one with seconds.
-use Rattle.std.proofs.Common.{◌≡◌, ℕ, ◌+◌, ◌-◌, ◌/◌, ◌%◌, true, false, eqb, ◌⊎◌, List, ◌∷◌, ◌++◌, length, take, drop, replicate, ℤ, pos, negsuc, nat_abs, sym, refl, ap, ◌∙◌, ⊎_elim, arith}
+use Rattle.std.proofs.Common.{◌≡◌, ℕ, ◌-◌, ◌/◌, ◌%◌, true, false, eqb, List, ◌∷◌, ◌++◌, length, take, drop, replicate, ℤ, pos, negsuc, nat_abs, sym, refl, ap, ◌∙◌, ⊎_elim, arith}
 use lib.Signed.{lt_z}
 use Rattle.std.proofs.lemmas.Slice.Eq.{text_from_reads}
 use Rattle.std.proofs.lemmas.Bool.{ltb-true, true≢false, cases_eq, eq-eqb, ne_eqb, cond-true, cond-false}

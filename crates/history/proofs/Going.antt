@@ -2,7 +2,7 @@
 use Rattle.std.proofs.Common.{◌≡◌, List, [], ◌∷◌, ◌++◌, sym, refl, ap, ◌∙◌, subst}
 use Rattle.provider.specs.Meaning.{Keeps, Sound}
 use Rattle.history.specs.Cells.{State, new_client}
-use Rattle.history.specs.Histories.{Source, Moment, History, calls_of, reports_of, end_of, Moves, client_after, OutcomesAsDefined, Linked}
+use Rattle.history.specs.Histories.{Source, History, calls_of, reports_of, end_of, Moves, client_after, OutcomesAsDefined, Linked}
 use Rattle.history.specs.Promises.{Replayed}
 use Rattle.history.specs.Steps.{Call, Report, Step, step}
 use Rattle.history.proofs.Promising.{histories_stand}

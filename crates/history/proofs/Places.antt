@@ -1,11 +1,10 @@
 -- The cell of a zone among the cells, and what a change of one cell leaves of the others. Assumes nothing.
 use Rattle.std.proofs.Common.{◌≡◌, ℕ, zero, suc, Bool, true, false, cond, List, [], ◌∷◌, get_or, set, replicate, Some, None, Option, refl, ap, ◌∙◌, subst, arith}
 use Rattle.std.specs.Option.{option_map}
-use Rattle.std.proofs.lemmas.Slice.Eq.{bytes_eq-Decides}
 use Rattle.names.specs.declared.name.Name.{Name}
 use Rattle.names.specs.Comparing.{same_name}
 use Rattle.names.specs.Finding.{first_place}
-use Rattle.names.proofs.Ordered.{same_name_is, same_name_self}
+use Rattle.names.proofs.Ordered.{same_name_is}
 use Rattle.history.specs.Cells.{Cell, State, free, is_owner, owned_by, has_no_owner, is_free, place_of, cell_at}
 
 -- from two unequal constructors that are equal

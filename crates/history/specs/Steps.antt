@@ -1,16 +1,15 @@
 -- What each call comes to, by the state of the client and what the provider means: the rules of the client. Assumes nothing.
-use Rattle.std.specs.Prelude.{ℕ, Bool, true, false, cond, List, [], ◌∷◌, length, ℤ, Some, None, Option, ◌==◌, nat_le, nat_lt, slice_set}
+use Rattle.std.specs.Prelude.{ℕ, Bool, cond, List, [], ◌∷◌, length, ℤ, Some, None, Option, ◌==◌, nat_le, nat_lt, slice_set}
 use Rattle.names.specs.declared.name.Name.{Name}
 use Rattle.names.specs.Finding.{first_place}
 use Rattle.zone.specs.declared.rows.Interval.{Interval}
 use Rattle.zone.specs.declared.windows.Table.{Table}
-use Rattle.zone.specs.Intervals.{has_instant, same_interval, within}
+use Rattle.zone.specs.Intervals.{has_instant, within}
 use Rattle.names.specs.Names.{is_name}
 use Rattle.zone.specs.Refusals.{Outcome, answered, refused}
 use Rattle.zone.specs.Rows.{window_rows}
 use Rattle.cutting.specs.declared.locals.Local.{Local}
 use Rattle.cutting.specs.Cutting.{cut, local}
-use Rattle.provider.specs.declared.requests.Request.{Request}
 use Rattle.provider.specs.Fetching.{checked}
 use Rattle.provider.specs.Meaning.{Meaning, Page}
 use Rattle.provider.specs.Publishing.{published}

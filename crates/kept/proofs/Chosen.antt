@@ -8,8 +8,7 @@ use Rattle.provider.specs.declared.requests.Reply.{Reply}
 use Rattle.provider.specs.declared.requests.Reply.TheVariants.{Unchanged, Fresh}
 use Rattle.provider.specs.Fetching.{judged, Leaves}
 use Rattle.kept.specs.declared.places.Label.{Label}
-use Rattle.kept.specs.declared.steps.Step.{Step}
-use Rattle.kept.specs.declared.steps.Step.TheVariants.{PassOn, Serve, Renew, Take}
+use Rattle.kept.specs.declared.steps.Step.TheVariants.{PassOn, Serve, Take}
 use Rattle.kept.specs.Keeping.{Kept, label_of}
 use Rattle.kept.specs.Stepping.{step, step_over}
 

@@ -1,5 +1,5 @@
 -- What is kept stays one page a name. Assumes nothing.
-use Rattle.std.proofs.Common.{◌≡◌, ℕ, zero, suc, ◌<◌, ◌≤◌, max, Bool, true, false, cond, ltb, leb, ◌⊎◌, List, [], ◌∷◌, length, get_or, set, replicate, Some, None, Ok, Err, Option, Result, sym, refl, ap, ◌∙◌, subst, inl, inr, arith}
+use Rattle.std.proofs.Common.{◌≡◌, ℕ, zero, suc, ◌<◌, max, Bool, true, false, cond, ltb, ◌⊎◌, List, [], ◌∷◌, length, get_or, set, replicate, Some, None, Ok, Err, Option, Result, sym, refl, ap, ◌∙◌, subst, inl, inr, arith}
 use native.Mathlib.Nat.{le-max_left}
 use Rattle.std.specs.Option.{option_map}
 use Rattle.std.proofs.lemmas.List.{length-set, get_or-set_same, get_or-set_other}
@@ -18,7 +18,7 @@ use Rattle.kept.specs.declared.steps.Step.{Step}
 use Rattle.kept.specs.declared.steps.Step.TheVariants.{PassOn, Serve, Renew, Take}
 use Rattle.kept.specs.Keeping.{Kept, from_edition, is_free, is_of, kept_at, kept_for, may_replace, none_kept, or_else, place_for, place_of, serving, with_page}
 use Rattle.kept.specs.Laws.{Apart, KeptWell, NoLower, PagesStand}
-use Rattle.kept.specs.Stepping.{is_older, kept_after, kept_by, page_in, step}
+use Rattle.kept.specs.Stepping.{is_older, kept_by, page_in, step}
 use Rattle.kept.proofs.Finding.{kept_named, serving_parts}
 
 -- two names of what is kept at one place are the same

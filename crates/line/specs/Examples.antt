@@ -1,5 +1,5 @@
 -- Worked examples: the fates of lines made of bytes. Assumes nothing.
-use Rattle.std.specs.Prelude.{◌≡◌, ℕ, [], ◌∷◌, length, replicate, codes}
+use Rattle.std.specs.Prelude.{◌≡◌, [], ◌∷◌, length, replicate, codes}
 use Rattle.line.specs.declared.fates.Fate.TheVariants.{Pass, LoseRequest, LoseReply}
 use Rattle.line.specs.Fates.{fates_of, next_fate, left_after}
 

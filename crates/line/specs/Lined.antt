@@ -1,9 +1,9 @@
 -- What a line's meaning keeps of the meaning below. Assumes nothing.
-use Rattle.std.specs.Prelude.{◌≡◌, ℕ, ◌≤◌, [], Result, refl}
-use Rattle.std.proofs.Common.{sym, ap, ◌∙◌, subst, zero-le}
+use Rattle.std.specs.Prelude.{ℕ, ◌≤◌, [], Result}
+use Rattle.std.proofs.Common.{sym, ap, subst, zero-le}
 use Rattle.zone.specs.declared.refusals.Refusal.{Refusal}
 use Rattle.zone.specs.declared.windows.Window.{Window}
-use Rattle.zone.specs.Refusals.{Outcome, refused}
+use Rattle.zone.specs.Refusals.{refused}
 use Rattle.provider.specs.declared.providers.Provider.{Ghosts}
 use Rattle.provider.specs.declared.requests.Reply.{Reply}
 use Rattle.provider.specs.declared.requests.Request.{Request}

@@ -1,5 +1,5 @@
 -- What a line means, and what it makes of a fetch. Assumes nothing.
-use Rattle.std.specs.Prelude.{◌≡◌, ℕ, List, Ok, Err, Result}
+use Rattle.std.specs.Prelude.{◌≡◌, ℕ, List, Err, Result}
 use Rattle.zone.specs.declared.refusals.Refusal.{Refusal}
 use Rattle.zone.specs.declared.refusals.Refusal.TheVariants.{Silent}
 use Rattle.zone.specs.declared.windows.Window.{Window}

@@ -1,8 +1,8 @@
 -- Lemmas on names and their padding. Assumes nothing.
 use Rattle.std.proofs.Common.{◌≡◌, ℕ, zero, suc, ◌+◌, ◌-◌, ◌<◌, ◌≤◌, Bool, true, false, cond, not, ◌&&◌, eqb, leb, List, [], ◌∷◌, ◌++◌, length, get_or, take, drop, replicate, Decides, sym, refl, ap, ◌∙◌, inl, inr, arith}
-use Rattle.std.proofs.lemmas.Bool.{leb-true, eqb-true, eq-eqb, false≢true, true≢false, and_parts, and_from, cases_Bool}
-use Rattle.std.proofs.lemmas.Bool.Decides.{nat_tests, same_from_decides}
-use Rattle.std.proofs.lemmas.List.{take_more, append_assoc, append-nil, at_drop_more, at_drop_all, take_all}
+use Rattle.std.proofs.lemmas.Bool.{leb-true, eqb-true, eq-eqb, false≢true, and_parts, and_from, cases_Bool}
+use Rattle.std.proofs.lemmas.Bool.Decides.{nat_tests}
+use Rattle.std.proofs.lemmas.List.{take_more, append_assoc, append-nil, at_drop_more, at_drop_all}
 use Rattle.names.specs.Names.{name_byte, blank, padded, is_name, name_bytes, is_text, held, spelled}
 use Rattle.names.specs.Laws.{Spells, NamesStand}
 

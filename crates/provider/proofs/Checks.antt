@@ -1,5 +1,5 @@
 -- What an outcome says of the checks that it passed. Assumes nothing.
-use Rattle.std.proofs.Common.{◌≡◌, ℕ, ◌≤◌, Bool, true, false, cond, eqb, leb, List, [], ◌∷◌, length, Some, None, Option, sym, refl, ap, ◌∙◌, subst, arith}
+use Rattle.std.proofs.Common.{◌≡◌, ℕ, Bool, true, false, cond, eqb, leb, List, [], ◌∷◌, length, Some, None, Option, refl, subst, arith}
 use Rattle.std.proofs.lemmas.Bool.{eqb-true, eqb-false, leb-true}
 use Rattle.zone.specs.declared.rows.Interval.{Interval}
 use Rattle.zone.specs.declared.rows.Row.{Row}
@@ -9,7 +9,7 @@ use Rattle.zone.specs.Refusals.{Outcome, answered, refused}
 use Rattle.zone.specs.Rows.{window_rows}
 use Rattle.cutting.specs.Cutting.{cut}
 use Rattle.provider.specs.declared.requests.Request.{Request}
-use Rattle.provider.specs.Fetching.{Answer, unchanged, fresh, checked, page_answer, edition_answer, turn_answer, fetched}
+use Rattle.provider.specs.Fetching.{Answer, unchanged, fresh, checked, page_answer, edition_answer, fetched}
 use Rattle.provider.specs.Laws.{Answering, AnswersComeFromPages}
 use Rattle.provider.specs.Meaning.{Page, Meaning}
 

@@ -1,19 +1,18 @@
 -- The answer that a page gives, from the cut that was made of it. Assumes nothing.
-use Rattle.std.proofs.Common.{◌≡◌, ℕ, ◌≤◌, true, false, cond, eqb, leb, List, [], ◌∷◌, length, Ok, Err, vec_items, Result, sym, refl, ap, ◌∙◌, arith}
+use Rattle.std.proofs.Common.{◌≡◌, ℕ, ◌≤◌, true, false, eqb, leb, List, [], ◌∷◌, length, Ok, Err, vec_items, Result, arith}
 use Rattle.std.proofs.lemmas.Bool.{le-leb}
 use Rattle.zone.specs.declared.rows.Interval.{Interval}
 use Rattle.zone.specs.declared.rows.Row.{Row}
 use Rattle.zone.specs.declared.windows.Window.{Window}
 use Rattle.zone.specs.Intervals.{within}
-use Rattle.zone.specs.Refusals.{Outcome, answered, refused}
+use Rattle.zone.specs.Refusals.{answered, refused}
 use Rattle.zone.specs.Rows.{Covers, window_rows}
 use Rattle.cutting.specs.declared.locals.CutRefusal.{CutRefusal}
 use Rattle.cutting.specs.Cutting.{cut}
-use Rattle.cutting.specs.Outcomes.{cut_outcome, cut_result, Leaves as CutLeaves}
+use Rattle.cutting.specs.Outcomes.{cut_result, Leaves as CutLeaves}
 use Rattle.cutting.proofs.Clipping.{cuts_agree}
-use Rattle.cutting.proofs.Fits.{cut_fits}
 use Rattle.provider.specs.declared.requests.Request.{Request}
-use Rattle.provider.specs.Fetching.{Answer, unchanged, fresh, page_answer, inside_answer}
+use Rattle.provider.specs.Fetching.{unchanged, fresh, inside_answer}
 use Rattle.provider.specs.Meaning.{Page}
 
 -- a cut that was answered is in the lent window

@@ -2,11 +2,11 @@
 use Rattle.std.specs.Prelude.{◌≡◌, ℕ, ◌≤◌, true, List, length, Some}
 use Rattle.zone.specs.declared.rows.Row.{Row}
 use Rattle.zone.specs.Intervals.{within}
-use Rattle.zone.specs.Refusals.{Outcome, answered}
+use Rattle.zone.specs.Refusals.{answered}
 use Rattle.zone.specs.Rows.{window_rows}
 use Rattle.cutting.specs.Cutting.{cut}
 use Rattle.provider.specs.declared.requests.Request.{Request}
-use Rattle.provider.specs.Fetching.{Answer, unchanged, fresh, fetched}
+use Rattle.provider.specs.Fetching.{unchanged, fresh, fetched}
 use Rattle.provider.specs.Meaning.{Page, Meaning}
 
 -- the page from which a fetch answered: that of the turn's edition, in the record

@@ -1,5 +1,5 @@
 -- What a publication comes to. Assumes nothing.
-use Rattle.std.specs.Prelude.{◌≡◌, ℕ, ◌+◌, Bool, cond, ◌&&◌, List, [], length, Some, Ok, Err, vec_items, Result, ◌≢◌, nat_lt}
+use Rattle.std.specs.Prelude.{◌≡◌, ℕ, ◌+◌, Bool, cond, ◌&&◌, [], length, Some, Ok, Err, vec_items, Result, ◌≢◌, nat_lt}
 use Rattle.names.specs.declared.name.Name.{Name}
 use Rattle.zone.specs.declared.refusals.Refusal.{Refusal}
 use Rattle.zone.specs.declared.windows.Table.{Table}

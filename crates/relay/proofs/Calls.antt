@@ -1,5 +1,5 @@
 -- What the calls of a relay keep and owe. Assumes nothing.
-use Rattle.std.proofs.Common.{◌≡◌, ℕ, Bool, List, Ok, Option, Result, sym, refl, ◌∙◌, subst}
+use Rattle.std.proofs.Common.{ℕ, Bool, List, Ok, Option, Result, sym, ◌∙◌, subst}
 use Rattle.names.specs.declared.name.Name.{Name}
 use Rattle.zone.specs.declared.refusals.Refusal.{Refusal}
 use Rattle.zone.specs.declared.windows.Table.{Table}
@@ -9,7 +9,7 @@ use Rattle.provider.specs.declared.requests.Reply.{Reply}
 use Rattle.provider.specs.declared.requests.Request.{Request}
 use Rattle.provider.specs.Fetching.{Fetched}
 use Rattle.provider.specs.Meaning.{Meaning, Sound}
-use Rattle.provider.specs.Publishing.{Next, Published}
+use Rattle.provider.specs.Publishing.{Published}
 use Rattle.provider.specs.Whole.{meaning}
 use Rattle.provider.proofs.Checks.{Passes}
 use Rattle.kept.specs.Keeping.{Kept}

@@ -1,7 +1,6 @@
 -- What a relay answers is what the record says at its turn. Assumes nothing.
-use Rattle.std.proofs.Common.{◌≡◌, ℕ, suc, ◌<◌, ◌≤◌, max, Bool, true, false, cond, eqb, ltb, ◌⊎◌, List, [], ◌∷◌, Some, None, Ok, Err, vec_items, Option, Result, sym, refl, ap, ◌∙◌, subst, inl, inr, arith}
+use Rattle.std.proofs.Common.{◌≡◌, ℕ, suc, ◌<◌, ◌≤◌, max, Bool, true, false, cond, eqb, ltb, ◌⊎◌, List, Some, None, Ok, Err, vec_items, Option, Result, sym, refl, ap, ◌∙◌, subst, inl, inr, arith}
 use native.Mathlib.Nat.{max-eq_left, max-eq_right}
-use Rattle.std.specs.Option.{option_map}
 use Rattle.std.proofs.lemmas.Bool.{cases_lt, leb-true, leb-false, or_left}
 use Rattle.names.specs.declared.name.Name.{Name}
 use Rattle.zone.specs.declared.refusals.Refusal.{Refusal}
@@ -9,21 +8,20 @@ use Rattle.zone.specs.declared.rows.Interval.{Interval}
 use Rattle.zone.specs.declared.rows.Row.{Row}
 use Rattle.zone.specs.declared.windows.Window.{Window}
 use Rattle.zone.specs.Intervals.{within}
-use Rattle.zone.specs.Refusals.{Outcome, answered, refused, number, values}
+use Rattle.zone.specs.Refusals.{answered, refused, number, values}
 use Rattle.cutting.specs.Cutting.{cut}
 use Rattle.cutting.proofs.Clipping.{cuts_agree, within_itself}
 use Rattle.provider.specs.declared.requests.Reply.{Reply}
 use Rattle.provider.specs.declared.requests.Reply.TheVariants.{Unchanged, Fresh}
 use Rattle.provider.specs.declared.requests.Request.{Request}
-use Rattle.provider.specs.Fetching.{Answer, unchanged, fresh, checked, turn_answer, fetched, judged, Leaves}
+use Rattle.provider.specs.Fetching.{unchanged, fresh, turn_answer, fetched, judged, Leaves}
 use Rattle.provider.specs.Holding.{FromPage}
 use Rattle.provider.specs.Meaning.{Meaning, Page, Sound}
 use Rattle.provider.proofs.Checks.{Passes, answers_come_from_pages}
 use Rattle.provider.proofs.Held.{held_cut}
-use Rattle.kept.specs.declared.steps.Step.{Step}
-use Rattle.kept.specs.declared.steps.Step.TheVariants.{PassOn, Serve, Renew, Take}
-use Rattle.kept.specs.Keeping.{Kept, from_edition, kept_for, may_replace, place_for, place_of, serving, with_page}
-use Rattle.kept.specs.Stepping.{answer_after, answer_by, from_kept, from_window, is_older, kept_after, kept_by, known_by, page_in, sent, step, turn_over}
+use Rattle.kept.specs.declared.steps.Step.TheVariants.{PassOn, Serve, Take}
+use Rattle.kept.specs.Keeping.{Kept, kept_for, place_of, serving}
+use Rattle.kept.specs.Stepping.{answer_after, answer_by, from_kept, from_window, is_older, known_by, sent, step, turn_over}
 use Rattle.kept.proofs.Finding.{kept_named, serving_parts}
 use Rattle.relay.specs.Relaying.{AllFrom, KeptFrom}
 use Rattle.relay.specs.Over.{at_from, over}

@@ -9,12 +9,12 @@ use Rattle.zone.specs.declared.rows.Interval.{Interval}
 use Rattle.zone.specs.declared.rows.Row.{Row}
 use Rattle.zone.specs.declared.windows.Window.{Window}
 use Rattle.zone.specs.Intervals.{within}
-use Rattle.zone.specs.Refusals.{Outcome, answered}
+use Rattle.zone.specs.Refusals.{answered}
 use Rattle.cutting.specs.Cutting.{cut}
 use Rattle.provider.specs.declared.requests.Reply.{Reply}
 use Rattle.provider.specs.declared.requests.Reply.TheVariants.{Unchanged, Fresh}
 use Rattle.provider.specs.declared.requests.Request.{Request}
-use Rattle.provider.specs.Fetching.{Answer, unchanged, fresh, fetched, judged, Leaves}
+use Rattle.provider.specs.Fetching.{unchanged, fetched, judged, Leaves}
 use Rattle.provider.specs.Holding.{FromPage}
 use Rattle.provider.specs.Meaning.{Meaning, Page, Sound}
 use Rattle.provider.proofs.Checks.{Passes, answers_come_from_pages}

@@ -1,12 +1,7 @@
 -- The worked example. Assumes nothing.
-use Rattle.std.proofs.Common.{◌≡◌, true, false, List, [], sym, refl, ap, ◌∙◌}
-use Rattle.std.specs.Str.{bytes_eq}
-use Rattle.names.specs.declared.name.Name.{Name}
-use Rattle.zone.specs.declared.rows.Row.{Row}
-use Rattle.zone.specs.Comparing.{same_rows}
+use Rattle.std.proofs.Common.{sym, refl}
 use Rattle.zone.proofs.Compared.{rows_agree, rows_differ}
-use Rattle.root.specs.Examples.{four, tagged, Worked, FourStand}
-use Rattle.root.specs.Logs.{pages}
+use Rattle.root.specs.Examples.{FourStand}
 use Rattle.root.specs.Latest.{named_yes, named_no}
 
 pub four_stand : FourStand

@@ -1,12 +1,12 @@
 -- The search for the latest entry of a name, entry by entry. Assumes nothing.
-use Rattle.std.proofs.Common.{◌≡◌, ℕ, ◌+◌, ◌<◌, ◌≤◌, List, [], ◌∷◌, ◌++◌, map, length, get_or, take, IfSome, Some, None, Option, sym, refl, ap, ◌∙◌, arith}
+use Rattle.std.proofs.Common.{◌≡◌, ℕ, ◌+◌, ◌<◌, ◌≤◌, List, length, get_or, take, IfSome, Some, None, Option, sym, ap, ◌∙◌}
 use Rattle.std.specs.Option.{option_map}
 use Rattle.std.proofs.lemmas.List.{map_more, take_all}
 use Rattle.std.proofs.lemmas.List.Sums.{fold_push}
 use Rattle.names.specs.declared.name.Name.{Name}
 use Rattle.zone.specs.declared.rows.Row.{Row}
 use Rattle.root.specs.declared.entries.Entry.{Entry}
-use Rattle.root.specs.Logs.{Publication, publication, log, no_entry, newer, latest}
+use Rattle.root.specs.Logs.{publication, log, no_entry, newer, latest}
 use Rattle.root.specs.Latest.{newer_yes, newer_no}
 
 -- what was found among the first i entries

@@ -1,5 +1,5 @@
 -- A root's log as the code reads it. Assumes nothing.
-use Rattle.std.proofs.Common.{◌≡◌, ℕ, ◌+◌, ◌<◌, ◌≤◌, Bool, true, false, cond, List, [], ◌∷◌, ◌++◌, map, length, get_or, take, drop, Some, None, vec_items, vec_len, Option, sym, refl, ap, ◌∙◌, subst, arith}
+use Rattle.std.proofs.Common.{◌≡◌, ℕ, ◌+◌, ◌<◌, ◌≤◌, Bool, true, cond, List, [], ◌∷◌, ◌++◌, map, length, get_or, take, drop, Some, None, vec_items, vec_len, sym, ap, ◌∙◌, subst, arith}
 use Rattle.std.specs.Option.{option_map}
 use Rattle.std.proofs.lemmas.List.{length-map, length-drop, get_or-map, map_push, same_lists, take_all, take-append-le, drop-append-le, drop_at}
 use Rattle.names.specs.declared.name.Name.{Name}
@@ -13,7 +13,7 @@ use Rattle.provider.specs.Fetching.{Answer, page_answer, inside_answer, edition_
 use Rattle.provider.specs.Meaning.{Page}
 use Rattle.root.specs.declared.entries.Entry.{Entry}
 use Rattle.root.specs.declared.roots.Root.{Root}
-use Rattle.root.specs.Logs.{Publication, publication, log, no_entry, at, latest, page, pages, tag_after, tag_for, add}
+use Rattle.root.specs.Logs.{Publication, publication, log, no_entry, latest, page, pages, tag_after, tag_for, add}
 use Rattle.root.specs.Order.{InOrder}
 use Rattle.root.specs.Roots.{log_of}
 use Rattle.root.specs.Latest.{pages_last, latest_stands}

@@ -1,7 +1,6 @@
 -- What the pages and tags of a log come to, in the words of the subject. Assumes nothing.
 use Rattle.std.specs.Prelude.{◌≡◌, ℕ, ◌+◌, ◌<◌, ◌≤◌, List, length, Some, None, ◌≢◌}
 use Rattle.names.specs.declared.name.Name.{Name}
-use Rattle.zone.specs.declared.rows.Row.{Row}
 use Rattle.root.specs.Logs.{Publication, at, page, pages}
 use Rattle.root.specs.Order.{InOrder}
 

@@ -1,17 +1,15 @@
 -- What the tags of a log in order come to. Assumes nothing.
-use Rattle.std.specs.Prelude.{◌≡◌, ℕ, zero, suc, ◌+◌, ◌<◌, ◌≤◌, Bool, true, false, cond, ◌⊎◌, List, [], ◌∷◌, ◌++◌, length, take, Some, None, Option, ◌≢◌}
+use Rattle.std.specs.Prelude.{◌≡◌, ℕ, zero, suc, ◌+◌, ◌<◌, ◌≤◌, cond, ◌⊎◌, List, length, take, Some, None, Option, ◌≢◌}
 use Rattle.std.proofs.Math.Path.{refl, sym, ap}
-use Rattle.std.proofs.Common.{subst, ◌∙◌}
+use Rattle.std.proofs.Common.{◌∙◌}
 use Rattle.std.proofs.Math.Logic.{inl, inr}
 use native.Mathlib.Omega.{arith}
 use Rattle.std.proofs.lemmas.List.{length-take-le}
 use Rattle.std.proofs.lemmas.Bool.{cases_Bool}
-use Rattle.names.specs.declared.name.Name.{Name}
-use Rattle.zone.specs.declared.rows.Row.{Row}
 use Rattle.zone.specs.Comparing.{same_rows}
 use Rattle.zone.proofs.Compared.{decides_rows, rows_agree, rows_differ}
 use Rattle.root.specs.Laws.{LastBefore, NoneBefore, TagsAreFirstNumbers}
-use Rattle.root.specs.Logs.{Publication, at, latest, tag_after, tag_for}
+use Rattle.root.specs.Logs.{Publication, at, latest, tag_after}
 use Rattle.root.specs.Order.{InOrder}
 use Rattle.root.specs.Latest.{latest_last, latest_none, latest_found}
 

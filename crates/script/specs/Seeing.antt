@@ -1,5 +1,5 @@
 -- A draft and a script as their definitions see them. Assumes nothing.
-use Rattle.std.specs.Prelude.{◌≡◌, ℕ, Bool, true, false, List, map, Some, None, Ok, Err, vec_items, Option, Result}
+use Rattle.std.specs.Prelude.{◌≡◌, ℕ, Bool, true, false, map, Some, None, Ok, Err, vec_items, Option, Result}
 use Rattle.std.specs.Option.{option_map}
 use Rattle.client.specs.declared.listing.Entry.{Entry}
 use Rattle.client.specs.declared.listing.Entry.TheVariants as entry

@@ -1,5 +1,5 @@
 -- The cells of the slots, one by one. Assumes nothing.
-use Rattle.std.proofs.Common.{◌≡◌, ℕ, ◌<◌, Bool, map, length, get_or, set, vec_items, vec_len, sym, ap, ◌∙◌, arith}
+use Rattle.std.proofs.Common.{◌≡◌, ℕ, ◌<◌, Bool, map, length, get_or, set, vec_items, sym, ap, ◌∙◌, arith}
 use Rattle.std.proofs.lemmas.List.{get_or-map, length-map, map-set}
 use Rattle.history.specs.Cells.{Cell, free}
 use Rattle.slots.specs.declared.slot.Slot.{Slot}

@@ -1,5 +1,5 @@
 -- What a reply to a slot's fetch does to the client, whatever the provider replied. Assumes nothing.
-use Rattle.std.specs.Prelude.{ℕ, Bool, false, cond, List, [], ◌∷◌, Some, None, Ok, Err, vec_items, Option, Result, nat_lt, slice_set}
+use Rattle.std.specs.Prelude.{ℕ, Bool, false, cond, [], ◌∷◌, Some, None, Ok, Err, vec_items, Option, Result, nat_lt, slice_set}
 use Rattle.zone.specs.declared.refusals.Refusal.{Refusal}
 use Rattle.zone.specs.declared.refusals.Refusal.TheVariants.{BadName, BadInterval, OutsideSpan, Silent, NoPage, TooManyRows, BelowFloor, AlreadyPending, NoFreeSlot, NotPending, NotHeld, OutsideWindow, NotATable, DoesNotFit, BadText, BufferTooShort}
 use Rattle.zone.specs.declared.rows.Interval.{Interval}

@@ -1,7 +1,6 @@
 -- The laws of good snapshots. Assumes nothing.
-use Rattle.std.proofs.Common.{◌≡◌, ℕ, zero, suc, ◌+◌, ◌<◌, ◌≤◌, Bool, true, false, cond, ◌&&◌, leb, List, [], ◌∷◌, length, get_or, Some, None, Decides, Option, sym, refl, ap, ◌∙◌, subst, inl, inr, add-one, arith}
+use Rattle.std.proofs.Common.{◌≡◌, ℕ, zero, suc, ◌+◌, ◌<◌, ◌≤◌, Bool, true, false, cond, ◌&&◌, leb, List, [], ◌∷◌, length, get_or, Some, None, Decides, sym, refl, ap, ◌∙◌, subst, add-one, arith}
 use Rattle.std.specs.List.{AllByRecursion as All}
-use Rattle.std.specs.Str.{bytes_eq}
 use Rattle.std.proofs.ByRecursion.{all_from_every, every_from_all, Decides-by_and}
 use Rattle.std.proofs.lemmas.Slice.Eq.{bytes_eq-Decides}
 use Rattle.std.proofs.lemmas.Bool.{and_parts, and_from}
@@ -13,7 +12,6 @@ use Rattle.zone.specs.Intervals.{era, same_interval, within}
 use Rattle.names.specs.Names.{is_name}
 use Rattle.names.proofs.Ordered.{before_never, before_chain}
 use Rattle.zone.proofs.Testing.{decides_interval, decides_leb}
-use Rattle.provider.specs.Meaning.{Page}
 use Rattle.snapshot.specs.declared.zones.Zone.{Zone}
 use Rattle.snapshot.specs.Laws.{Good, SnapshotsStand}
 use Rattle.snapshot.specs.Zones.{fits, all_fit, before_next, rising, is_good, most_zones, page, page_of}

@@ -1,5 +1,5 @@
 -- What a snapshot means keeps what a provider's meaning must keep. Assumes nothing.
-use Rattle.std.specs.Prelude.{◌≡◌, ℕ, ◌≤◌, Bool, true, false, cond, ◌&&◌, List, [], ◌∷◌, length, Some, None, vec_items, Option, ◌==◌, nat_eq, nat_le, refl}
+use Rattle.std.specs.Prelude.{◌≡◌, ℕ, ◌≤◌, Bool, true, false, cond, ◌&&◌, List, [], length, Some, None, vec_items, Option, ◌==◌, nat_eq, nat_le, refl}
 use Rattle.std.proofs.Common.{sym, ap, subst, ◌∙◌, inl, inr, arith, eq-eqb}
 use Rattle.std.proofs.lemmas.Bool.{and_parts, cases_Bool, eqb-true, leb-true}
 use Rattle.std.proofs.lemmas.Bool.Decides.{nat_tests}
@@ -8,11 +8,11 @@ use Rattle.zone.specs.declared.rows.Interval.{Interval}
 use Rattle.zone.specs.declared.windows.Window.{Window}
 use Rattle.zone.specs.Intervals.{era, same_interval, within}
 use Rattle.names.specs.Names.{is_name}
-use Rattle.zone.specs.Refusals.{Outcome, answered, refused}
+use Rattle.zone.specs.Refusals.{refused}
 use Rattle.zone.specs.Rows.{Covers, table_rows}
 use Rattle.zone.proofs.Testing.{decides_interval}
 use Rattle.provider.specs.declared.requests.Request.{Request}
-use Rattle.provider.specs.Fetching.{Answer, inside_answer, page_answer, edition_answer, turn_answer}
+use Rattle.provider.specs.Fetching.{inside_answer, page_answer, edition_answer, turn_answer}
 use Rattle.provider.specs.Meaning.{Page, Meaning, Paged, Sound, last_edition}
 use Rattle.snapshot.specs.declared.zones.Zone.{Zone}
 use Rattle.snapshot.specs.Zones.{fits, page, page_of}

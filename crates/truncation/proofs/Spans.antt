@@ -2,7 +2,7 @@
 use Rattle.std.proofs.Common.{◌≡◌, Bool, true, false, cond, [], refl, ap, ◌∙◌}
 use Rattle.zone.specs.declared.rows.Interval.{Interval}
 use Rattle.zone.specs.Intervals.{era, within}
-use Rattle.zone.specs.Refusals.{Outcome, answered, refused}
+use Rattle.zone.specs.Refusals.{answered, refused}
 use Rattle.cutting.proofs.Clipping.{within_itself}
 use Rattle.truncation.specs.Truncating.{span_kept, taken}
 

@@ -1,24 +1,22 @@
 -- What a truncation's meaning keeps of the meaning below. Assumes nothing.
-use Rattle.std.specs.Prelude.{◌≡◌, ℕ, ◌+◌, ◌≤◌, Bool, true, false, cond, ◌&&◌, List, [], ◌∷◌, length, Some, None, Ok, Err, vec_items, Option, Result, ◌==◌, nat_le, refl}
+use Rattle.std.specs.Prelude.{◌≡◌, ℕ, Bool, true, cond, [], ◌∷◌, length, Some, None, Ok, vec_items, Option, Result, ◌==◌, nat_le, refl}
 use Rattle.std.proofs.Common.{sym, ap, ◌∙◌, subst, arith}
-use Rattle.std.proofs.lemmas.Bool.{and_parts}
 use Rattle.names.specs.declared.name.Name.{Name}
 use Rattle.zone.specs.declared.refusals.Refusal.{Refusal}
 use Rattle.zone.specs.declared.rows.Interval.{Interval}
-use Rattle.zone.specs.declared.rows.Row.{Row}
 use Rattle.zone.specs.declared.windows.Table.{Table}
 use Rattle.zone.specs.declared.windows.Window.{Window}
 use Rattle.zone.specs.Intervals.{era, within}
 use Rattle.names.specs.Names.{is_name}
 use Rattle.zone.specs.Rows.{Covers, window_rows}
-use Rattle.zone.specs.Refusals.{Outcome, answered, refused}
+use Rattle.zone.specs.Refusals.{answered, refused}
 use Rattle.zone.specs.Tables.{is_era_table}
 use Rattle.zone.proofs.Testing.{decides_era_table}
 use Rattle.cutting.specs.Cutting.{cut}
 use Rattle.cutting.proofs.Clipping.{cuts_agree, within_trans}
 use Rattle.provider.specs.declared.requests.Reply.{Reply}
 use Rattle.provider.specs.declared.requests.Request.{Request}
-use Rattle.provider.specs.Fetching.{Answer, page_answer, turn_answer, unchanged, fresh, fetched, Fetched}
+use Rattle.provider.specs.Fetching.{page_answer, turn_answer, unchanged, fresh, fetched, Fetched}
 use Rattle.provider.specs.Meaning.{Page, Meaning, Keeps, Paged, Sound}
 use Rattle.provider.specs.Publishing.{Next, published, Published}
 use Rattle.provider.proofs.Checks.{Passes, checked_next, passed}

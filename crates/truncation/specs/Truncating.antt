@@ -1,5 +1,5 @@
 -- What a truncation means. Assumes nothing.
-use Rattle.std.specs.Prelude.{◌≡◌, true, cond, ◌&&◌, [], Some, None, Option}
+use Rattle.std.specs.Prelude.{◌≡◌, true, cond, [], Some, None, Option}
 use Rattle.zone.specs.declared.rows.Interval.{Interval}
 use Rattle.zone.specs.Intervals.{era, within}
 use Rattle.zone.specs.Refusals.{Outcome, answered, refused}

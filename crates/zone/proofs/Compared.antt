@@ -1,12 +1,11 @@
 -- Comparisons of rows, decided. Assumes nothing.
-use Rattle.std.proofs.Common.{◌≡◌, Bool, true, false, ◌&&◌, List, [], ◌∷◌, ℤ, Decides, refl, ap, ◌∙◌, inl, inr}
+use Rattle.std.proofs.Common.{◌≡◌, true, false, ◌&&◌, List, [], ◌∷◌, ℤ, Decides, refl, ap, ◌∙◌, inl, inr}
 use Rattle.names.proofs.Ordered.{names_ordered}
 use Rattle.std.proofs.lemmas.Bool.{cases_Bool}
 use Rattle.std.proofs.lemmas.Bool.Decides.{Decides-like, Decides-and}
 use Rattle.zone.specs.declared.rows.Observance.{Observance}
 use Rattle.zone.specs.declared.rows.Observance.TheVariants.{Standard, Daylight}
 use Rattle.zone.specs.declared.rows.Row.{Row}
-use Rattle.zone.specs.Intervals.{same_number}
 use Rattle.zone.specs.Comparing.{same_observance, same_row, same_rows, ComparisonsStand}
 use Rattle.zone.proofs.Testing.{decides_same}
 

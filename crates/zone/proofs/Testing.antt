@@ -1,14 +1,14 @@
 -- The tests of tables tell the facts. Assumes nothing.
-use Rattle.std.proofs.Common.{◌≡◌, ℕ, ◌+◌, ◌-◌, ◌<◌, ◌≤◌, Bool, true, false, ◌&&◌, ltb, leb, List, length, ℤ, ◌≤ℤ◌, ◌<ℤ◌, Decides, sym, refl, ap, ◌∙◌, subst, inl, inr, arith}
+use Rattle.std.proofs.Common.{◌≡◌, ℕ, ◌+◌, ◌-◌, ◌≤◌, Bool, false, ◌&&◌, leb, List, length, ℤ, ◌≤ℤ◌, ◌<ℤ◌, Decides, sym, refl, ap, ◌∙◌, subst, inl, inr, arith}
 use lib.Signed.{lt_z, le_z}
 use Rattle.std.proofs.lemmas.Int.{ints}
 use Rattle.std.proofs.lemmas.Bool.{leb-true, le-leb, and_left, cases_Bool}
 use Rattle.std.proofs.lemmas.Bool.Decides.{same_from_decides, Decides-like, Decides-and, Decides-ltb, Decides-below_and}
 use Rattle.zone.specs.declared.rows.Interval.{Interval}
 use Rattle.zone.specs.declared.rows.Row.{Row}
-use Rattle.zone.specs.Intervals.{era, same_interval, same_number, within}
+use Rattle.zone.specs.Intervals.{era, same_interval, same_number}
 use Rattle.zone.specs.Laws.{TablesStand}
-use Rattle.zone.specs.Rows.{at, Offset, Begins, Joined, Ends, Small, Covers, Sound, table_rows}
+use Rattle.zone.specs.Rows.{at, Offset, Joined, Small, Covers, Sound, table_rows}
 use Rattle.zone.specs.Tables.{each_below, small, joined_at, small_at, cover, is_table, is_era_table}
 
 decides_ltZ : (a b : ℤ) → Decides (lt_z a b) (a <ℤ b)

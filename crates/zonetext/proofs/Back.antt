@@ -1,38 +1,35 @@
 -- The text of a zone reads as that zone. Assumes nothing.
-use Rattle.std.proofs.Common.{◌≡◌, ℕ, ◌+◌, ◌<◌, ◌≤◌, Bool, true, false, cond, not, ◌&&◌, eqb, ltb, leb, List, [], ◌∷◌, ◌++◌, length, ℤ, pos, negsuc, ◌+ℤ◌, ◌-ℤ◌, ◌≤ℤ◌, ◌<ℤ◌, Some, None, codes, Option, sym, refl, ap, ◌∙◌, subst, arith}
+use Rattle.std.proofs.Common.{◌≡◌, ℕ, ◌+◌, ◌<◌, ◌≤◌, true, false, not, ◌&&◌, eqb, ltb, leb, List, [], ◌∷◌, ◌++◌, length, ℤ, pos, ◌+ℤ◌, ◌-ℤ◌, Some, None, codes, sym, refl, ap, ◌∙◌, subst, arith}
 use lib.Signed.{lt_z, le_z}
-use Rattle.std.specs.List.{flat_map, AllByRecursion as All}
+use Rattle.std.specs.List.{AllByRecursion as All}
 use Rattle.std.specs.Str.{bytes_eq}
-use Rattle.std.proofs.ByRecursion.{All-append}
 use Rattle.std.proofs.lemmas.Slice.Eq.{bytes_eq-Decides}
-use Rattle.std.proofs.lemmas.List.{append_assoc, append-nil, length_push, length-append, get_or_at}
+use Rattle.std.proofs.lemmas.List.{append_assoc, append-nil, length-append}
 use Rattle.std.proofs.lemmas.Int.{ints}
 use Rattle.std.proofs.lemmas.Bool.{lt-ltb, cond-true, ne_eqb, and_from, and_parts, both_ways}
-use Rattle.calendar.specs.Calendar.{Valid, InRange}
+use Rattle.calendar.specs.Calendar.{InRange}
 use Rattle.calendar.specs.declared.dates.Seconds.{Seconds}
 use Rattle.fields.specs.declared.types.Offset.{Offset}
 use Rattle.fields.specs.Laws.{FieldByte}
-use Rattle.fields.specs.Offsets.{offset, printed, parsed, InDay}
+use Rattle.fields.specs.Offsets.{offset, printed, InDay}
 use Rattle.fields.specs.Stamps.{stamp_text}
 use Rattle.fields.proofs.Parsing.{parsed_printed}
 use Rattle.fields.proofs.Shapes.{offset_bytes, stamp_bytes}
 use Rattle.zone.specs.declared.rows.Instant.{Instant}
-use Rattle.zone.specs.declared.rows.Interval.{Interval}
 use Rattle.zone.specs.declared.rows.Observance.{Observance}
 use Rattle.zone.specs.declared.rows.Observance.TheVariants.{Standard, Daylight}
 use Rattle.zone.specs.declared.rows.Row.{Row}
 use Rattle.zone.specs.Intervals.{era}
-use Rattle.names.specs.Names.{name_byte, name_bytes, is_text, held, spelled}
+use Rattle.names.specs.Names.{name_byte, name_bytes, is_text, spelled}
 use Rattle.zone.specs.Refusals.{answered}
-use Rattle.zone.specs.Rows.{at, no_row, window_rows, Sound, Small, Offset as SmallOffset}
+use Rattle.zone.specs.Rows.{window_rows}
 use Rattle.zonetext.specs.declared.places.Part.TheVariants.{Empty, Started, Left, Full}
-use Rattle.zonetext.specs.declared.places.Place.{Place}
 use Rattle.zonetext.specs.declared.places.Place.TheVariants.{Before, Head, Between, Inside, After}
 use Rattle.zonetext.specs.Laws.{ReadsAs, OneText, TextsStand}
 use Rattle.zonetext.specs.Lines.{Lines, rest, line, unlines, cut, Said, begin, end, property, said, split}
 use Rattle.zonetext.specs.Reading.{State, Zone, zone, state, start, component, row_of, may_come, closed, step, zone_read, run, reading}
 use Rattle.zonetext.specs.Stamps.{stamp_at}
-use Rattle.zonetext.specs.Values.{after, start_read, until_read}
+use Rattle.zonetext.specs.Values.{after}
 use Rattle.zonetext.specs.Writing.{start_text, until_text, text_of, IsZone, Writable}
 use Rattle.zonetext.proofs.Counting.{stamp_there}
 use Rattle.zonetext.proofs.Gluing.{bare, row_lines, lines_of, text_unlined, plain, cut_line}
@@ -41,7 +38,7 @@ use Rattle.zonetext.proofs.Fitting.{rows_writable, end_range, ends_late, ends_ea
 use Rattle.zonetext.proofs.Only.{only}
 use Rattle.zonetext.proofs.Padding.{name_back}
 use Rattle.zonetext.proofs.Turns.{run_on, run_rest, reading_is}
-use Rattle.zonetext.proofs.Valued.{start_there, until_there, small_day}
+use Rattle.zonetext.proofs.Valued.{start_there, until_there}
 
 -- the lines of a zone have no CR
 plain_fields : (l : List ℕ) → All FieldByte l → plain l ≡ true

@@ -1,9 +1,9 @@
 -- The stamp at the seconds of a valid stamp is that stamp. Assumes nothing.
-use Rattle.std.proofs.Common.{◌≡◌, ℕ, zero, suc, ◌+◌, ◌-◌, ◌*◌, ◌/◌, ◌%◌, ◌<◌, ◌≤◌, Bool, true, false, cond, ltb, ℤ, pos, ◌+ℤ◌, ◌-ℤ◌, nat_abs, sym, refl, ap, ◌∙◌, subst, arith}
+use Rattle.std.proofs.Common.{◌≡◌, ℕ, zero, suc, ◌+◌, ◌-◌, ◌*◌, ◌/◌, ◌%◌, ◌<◌, ◌≤◌, ltb, ℤ, pos, ◌+ℤ◌, nat_abs, sym, refl, ap, ◌∙◌, subst, arith}
 use Rattle.std.proofs.lemmas.Int.{ints}
 use Rattle.std.proofs.lemmas.Bool.{cond-true, cond-false, lt-ltb, le-ltb}
 use Rattle.calendar.specs.declared.dates.Stamp.{Stamp}
-use Rattle.calendar.specs.Calendar.{year_days, month_days, sum_below, sum_between, days_before_year, days_before_month, Valid, InRange, day_number, second_of_day, seconds_from_1899, seconds}
+use Rattle.calendar.specs.Calendar.{year_days, month_days, sum_below, days_before_year, days_before_month, Valid, InRange, day_number, second_of_day, seconds_from_1899, seconds}
 use Rattle.calendar.proofs.Sum.{in_year}
 use Rattle.calendar.proofs.Exists.{seconds_exist}
 use Rattle.zonetext.specs.Stamps.{count_off, year_of, month_of, stamp, stamp_of_day, stamp_at}

@@ -1,9 +1,9 @@
 -- A loop over the bytes of a text finds its first line, and over those of a line its first colon. Assumes nothing.
-use Rattle.std.proofs.Common.{◌≡◌, ℕ, ◌+◌, ◌-◌, ◌<◌, ◌≤◌, Bool, true, false, cond, ◌&&◌, eqb, ◌⊎◌, List, [], ◌∷◌, ◌++◌, length, get_or, take, drop, codes, sym, refl, ap, ◌∙◌, subst, inl, inr, ⊎_elim, arith}
-use Rattle.std.proofs.lemmas.List.{drop_more, take_more, append-nil, take-append-drop, length-drop, drop_all, take_all, take_rest}
-use Rattle.std.proofs.lemmas.Bool.{eqb-true, eq-eqb, ne_eqb, cases_eq, cases_Bool, cond-true, cond-false, and_from, and_left, and_right}
+use Rattle.std.proofs.Common.{◌≡◌, ℕ, ◌+◌, ◌-◌, ◌<◌, ◌≤◌, true, false, ◌&&◌, eqb, List, [], ◌∷◌, ◌++◌, length, get_or, take, drop, codes, sym, refl, ap, ◌∙◌, ⊎_elim, arith}
+use Rattle.std.proofs.lemmas.List.{drop_more, take_more, append-nil, take-append-drop, length-drop, drop_all, take_rest}
+use Rattle.std.proofs.lemmas.Bool.{eq-eqb, ne_eqb, cases_eq, cond-true, cond-false, and_left, and_right}
 use Rattle.std.specs.Str.{bytes_eq}
-use Rattle.zonetext.specs.Lines.{Lines, rest, line, unlines, glue, cut, Split, whole, apart, grow, split, Said, begin, end, property, odd, said, said_by}
+use Rattle.zonetext.specs.Lines.{Lines, rest, line, glue, cut, whole, apart, grow, split, begin, end, property, odd, said, said_by}
 
 -- f at each byte, from the last to the first
 abbrev pub each : {K : Type 0} → (ℕ → K → K) → List ℕ → K → K

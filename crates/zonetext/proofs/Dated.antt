@@ -1,13 +1,12 @@
 -- The values of the dated lines. Assumes nothing.
-use Rattle.std.proofs.Common.{◌≡◌, ℕ, ◌-◌, Bool, true, false, cond, ◌&&◌, eqb, List, length, take, drop, ℤ, Some, None, codes, Option, sym, refl, ap, ◌∙◌, subst, arith}
+use Rattle.std.proofs.Common.{◌≡◌, ℕ, ◌-◌, true, false, ◌&&◌, eqb, List, length, take, drop, ℤ, Some, None, codes, Option, sym, ap, ◌∙◌}
 use Rattle.std.specs.Str.{bytes_eq}
 use Rattle.std.proofs.lemmas.List.{take_rest}
 use Rattle.std.proofs.lemmas.Bool.{cond-true, cond-false, and_from, and_left, and_right, eq-eqb, ne_eqb}
 use Rattle.calendar.specs.declared.dates.Seconds.{Seconds}
 use Rattle.calendar.specs.declared.dates.Stamp.{Stamp}
-use Rattle.calendar.specs.Calendar.{seconds, Valid, SecondsFound, SecondsAre}
+use Rattle.calendar.specs.Calendar.{SecondsFound}
 use Rattle.fields.specs.Stamps.{stamp_read}
-use Rattle.zone.specs.declared.rows.Instant.{Instant}
 use Rattle.zonetext.specs.Values.{after, clocked, start_read, until_at, until_read}
 use Rattle.fields.proofs.Dates.{read_only}
 

@@ -1,5 +1,5 @@
 -- The rows of a window have texts, and so has its end. Assumes nothing.
-use Rattle.std.proofs.Common.{◌≡◌, ℕ, ◌<◌, Bool, true, ◌&&◌, List, length, ℤ, pos, negsuc, ◌+ℤ◌, ◌≤ℤ◌, ◌<ℤ◌, sym, refl, ap, ◌∙◌, subst, arith}
+use Rattle.std.proofs.Common.{◌≡◌, ℕ, true, ◌&&◌, List, ℤ, ◌+ℤ◌, ◌≤ℤ◌, ◌<ℤ◌, arith}
 use lib.Signed.{lt_z, le_z}
 use Rattle.std.specs.List.{AllByRecursion as All}
 use Rattle.std.proofs.ByRecursion.{All-from_get_or}
@@ -11,7 +11,7 @@ use Rattle.zone.specs.declared.rows.Row.{Row}
 use Rattle.zone.specs.Intervals.{era, within}
 use Rattle.zone.specs.Rows.{at, no_row, Offset, Sound}
 use Rattle.zonetext.specs.Writing.{Writable}
-use Rattle.zonetext.proofs.Keeping.{Kept, sound_kept, le_yes, lt_yes, yes_lt}
+use Rattle.zonetext.proofs.Keeping.{sound_kept, le_yes, lt_yes, yes_lt}
 use Rattle.zonetext.proofs.Valued.{small_day}
 
 -- the interval of a window ends in the era, after its start

@@ -1,14 +1,14 @@
 -- What the rows that are read keep, and the rows of a window. Assumes nothing.
-use Rattle.std.proofs.Common.{◌≡◌, ℕ, zero, suc, ◌+◌, ◌-◌, ◌<◌, ◌≤◌, Bool, true, false, cond, ◌&&◌, ◌||◌, eqb, ltb, leb, List, [], ◌∷◌, ◌++◌, length, get_or, ℤ, pos, negsuc, ◌≤ℤ◌, ◌<ℤ◌, sym, refl, ap, ◌∙◌, subst, inl, inr, arith}
+use Rattle.std.proofs.Common.{◌≡◌, ℕ, zero, suc, ◌+◌, ◌-◌, ◌<◌, ◌≤◌, true, ◌&&◌, ◌||◌, eqb, List, [], ◌∷◌, ◌++◌, length, ℤ, ◌≤ℤ◌, ◌<ℤ◌, sym, refl, ap, ◌∙◌, subst, inl, inr, arith}
 use lib.Signed.{lt_z, le_z}
 use Rattle.std.proofs.lemmas.List.{length_push, length-append, get_or_append_left, get_or_push, get_or_at}
 use Rattle.std.proofs.lemmas.Int.{ints}
-use Rattle.std.proofs.lemmas.Bool.{cases_lt, cases_Bool, and_from, and_parts, or_cases, or_left, or_right, eqb-true, eq-eqb}
+use Rattle.std.proofs.lemmas.Bool.{cases_lt, and_from, and_parts, or_cases, or_left, or_right, eqb-true, eq-eqb}
 use Rattle.zone.specs.declared.rows.Instant.{Instant}
 use Rattle.zone.specs.declared.rows.Interval.{Interval}
 use Rattle.zone.specs.declared.rows.Row.{Row}
-use Rattle.zone.specs.Intervals.{era, within, has_instant}
-use Rattle.zone.specs.Rows.{at, no_row, Offset, Joined, Small, Begins, Ends, Covers, Sound, window_rows}
+use Rattle.zone.specs.Intervals.{era, has_instant}
+use Rattle.zone.specs.Rows.{at, no_row, Offset, Joined, Small, Sound, window_rows}
 use Rattle.zonetext.specs.Reading.{inside, follows, may_come}
 
 -- of rows that are read, up to the window's end u

@@ -1,5 +1,5 @@
 -- What a line that the reader takes must be. Assumes nothing.
-use Rattle.std.proofs.Common.{◌≡◌, ℕ, ◌<◌, Bool, true, false, cond, ◌&&◌, ltb, ◌⊎◌, List, [], ◌∷◌, ◌++◌, length, Some, None, codes, Option, sym, refl, ap, ◌∙◌, subst, inl, inr, ⊎_elim, arith}
+use Rattle.std.proofs.Common.{◌≡◌, ℕ, ◌<◌, true, false, ltb, ◌⊎◌, List, [], ◌∷◌, ◌++◌, length, Some, None, codes, Option, sym, ap, ◌∙◌, inl, inr, ⊎_elim, arith}
 use lib.Signed.{le_z}
 use Rattle.std.specs.Str.{bytes_eq}
 use Rattle.std.proofs.lemmas.Slice.Eq.{bytes_eq-Decides}
@@ -12,18 +12,16 @@ use Rattle.fields.proofs.Parsing.{parsed_only}
 use Rattle.zone.specs.declared.rows.Instant.{Instant}
 use Rattle.zone.specs.declared.rows.Observance.{Observance}
 use Rattle.zone.specs.declared.rows.Observance.TheVariants.{Standard, Daylight}
-use Rattle.zone.specs.declared.rows.Row.{Row}
 use Rattle.zone.specs.Intervals.{era}
 use Rattle.names.specs.Names.{is_text}
 use Rattle.zone.specs.Rows.{window_rows}
-use Rattle.zonetext.specs.declared.places.Part.{Part}
 use Rattle.zonetext.specs.declared.places.Part.TheVariants.{Empty, Started, Left, Full}
 use Rattle.zonetext.specs.declared.places.Place.{Place}
-use Rattle.zonetext.specs.declared.places.Place.TheVariants.{Before, Head, Between, Inside, After}
+use Rattle.zonetext.specs.declared.places.Place.TheVariants.{Head, Between, Inside, After}
 use Rattle.zonetext.specs.Lines.{Said, begin, end, property, odd}
-use Rattle.zonetext.specs.Reading.{State, state, component, row_of, may_come, in_front, in_head, in_between, in_row, closed}
+use Rattle.zonetext.specs.Reading.{State, state, component, row_of, may_come, in_front, in_head, in_between, in_row}
 use Rattle.zonetext.specs.Stamps.{stamp_at}
-use Rattle.zonetext.specs.Values.{after, start_read, until_read}
+use Rattle.zonetext.specs.Values.{start_read, until_read}
 use Rattle.zonetext.specs.Writing.{until_text}
 use Rattle.zonetext.proofs.Valued.{after_in, cond_in, start_only, until_only}
 

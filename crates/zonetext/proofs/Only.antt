@@ -1,27 +1,26 @@
 -- A text that reads as a zone is the text of that zone. Assumes nothing.
-use Rattle.std.proofs.Common.{◌≡◌, ℕ, ◌+◌, ◌<◌, ◌≤◌, Bool, true, false, cond, List, [], ◌∷◌, ◌++◌, length, ℤ, pos, ◌+ℤ◌, ◌-ℤ◌, Some, None, codes, Option, sym, refl, ap, ◌∙◌, subst, ⊎_elim, arith}
+use Rattle.std.proofs.Common.{◌≡◌, ℕ, ◌+◌, ◌<◌, ◌≤◌, true, false, List, [], ◌∷◌, ◌++◌, length, ℤ, pos, ◌+ℤ◌, ◌-ℤ◌, Some, None, codes, Option, sym, refl, ap, ◌∙◌, subst, ⊎_elim, arith}
 use lib.Signed.{le_z}
-use Rattle.std.proofs.lemmas.List.{append_assoc, append-nil, length_push, length-append, length-replicate}
+use Rattle.std.proofs.lemmas.List.{append_assoc, append-nil, length_push}
 use Rattle.std.proofs.lemmas.Int.{ints}
-use Rattle.std.proofs.lemmas.Bool.{and_parts, leb-true}
 use Rattle.calendar.specs.declared.dates.Seconds.{Seconds}
 use Rattle.fields.specs.declared.types.Offset.{Offset}
-use Rattle.fields.specs.Offsets.{offset, printed, InDay}
+use Rattle.fields.specs.Offsets.{printed, InDay}
 use Rattle.fields.specs.Stamps.{stamp_text}
 use Rattle.zone.specs.declared.rows.Instant.{Instant}
 use Rattle.zone.specs.declared.rows.Observance.{Observance}
 use Rattle.zone.specs.declared.rows.Row.{Row}
 use Rattle.zone.specs.Intervals.{era}
-use Rattle.names.specs.Names.{is_text, held, spelled, is_name}
-use Rattle.zone.specs.Refusals.{Outcome, answered, refused}
-use Rattle.zone.specs.Rows.{window_rows, Sound}
+use Rattle.names.specs.Names.{is_text, held, spelled}
+use Rattle.zone.specs.Refusals.{answered}
+use Rattle.zone.specs.Rows.{window_rows}
 use Rattle.names.proofs.Spelling.{names_stand}
 use Rattle.zonetext.specs.declared.places.Part.TheVariants.{Empty, Started, Left, Full}
 use Rattle.zonetext.specs.declared.places.Place.{Place}
 use Rattle.zonetext.specs.declared.places.Place.TheVariants.{Before, Head, Between, Inside, After}
 use Rattle.zonetext.specs.Laws.{ReadsAs, IsTextOf}
 use Rattle.zonetext.specs.Lines.{Lines, rest, line, unlines, cut, said}
-use Rattle.zonetext.specs.Reading.{State, Zone, state, start, component, row_of, may_come, step, zone_read, fails, is_after, ending, run, reading}
+use Rattle.zonetext.specs.Reading.{State, Zone, state, component, row_of, may_come, step, zone_read, fails, ending, run}
 use Rattle.zonetext.specs.Stamps.{stamp_at}
 use Rattle.zonetext.specs.Writing.{until_text, text_of, IsZone}
 use Rattle.zonetext.proofs.Gluing.{bare, row_lines, lines_of, text_unlined, unlines_cut, text_begin, text_end, text_property}

@@ -1,13 +1,12 @@
 -- What a call that reads a text tells. Assumes nothing.
-use Rattle.std.proofs.Common.{◌≡◌, ℕ, ◌-◌, ◌<◌, ◌≤◌, Bool, true, false, List, length, take, ℤ, Ok, Err, vec_items, Decides, Result, sym, refl, ap, ◌∙◌, subst, arith}
+use Rattle.std.proofs.Common.{◌≡◌, ℕ, ◌-◌, ◌≤◌, Bool, true, List, length, take, Err, vec_items, Decides, Result, sym, refl, ap, ◌∙◌, subst, arith}
 use Rattle.std.proofs.lemmas.List.{get_or-take, length-take-le}
 use Rattle.names.specs.declared.name.Name.{Name}
 use Rattle.zone.specs.declared.refusals.Refusal.{Refusal}
 use Rattle.zone.specs.declared.rows.Interval.{Interval}
-use Rattle.zone.specs.declared.rows.Row.{Row}
 use Rattle.zone.specs.declared.windows.Window.{Window}
 use Rattle.names.specs.Names.{held}
-use Rattle.zone.specs.Refusals.{Outcome, answered, refused, number, values, outcome}
+use Rattle.zone.specs.Refusals.{answered, refused, number, values, outcome}
 use Rattle.zone.specs.Rows.{at, no_row, Sound, window_rows}
 use Rattle.zonetext.specs.declared.places.Reader.{Reader}
 use Rattle.zonetext.specs.Laws.{IsTextOf, Says}

@@ -1,15 +1,13 @@
 -- One line after another gives what the whole text gives. Assumes nothing.
-use Rattle.std.proofs.Common.{◌≡◌, ℕ, ◌+◌, ◌-◌, ◌<◌, ◌≤◌, Bool, true, false, cond, List, [], ◌∷◌, ◌++◌, length, take, drop, Some, None, Option, sym, refl, ap, ◌∙◌, subst, arith}
+use Rattle.std.proofs.Common.{◌≡◌, ℕ, ◌+◌, ◌-◌, ◌<◌, ◌≤◌, true, false, cond, List, [], ◌∷◌, length, take, drop, Some, None, sym, refl, ap, ◌∙◌, arith}
 use Rattle.std.proofs.lemmas.List.{drop-drop, drop_all, length-take-le, length-drop, take_rest}
-use Rattle.zone.specs.declared.rows.Instant.{Instant}
-use Rattle.zone.specs.declared.rows.Row.{Row}
-use Rattle.zone.specs.Refusals.{Outcome, answered, refused}
+use Rattle.zone.specs.Refusals.{answered}
 use Rattle.zone.specs.Rows.{window_rows}
 use Rattle.zonetext.specs.declared.places.Part.TheVariants.{Empty, Started, Left, Full}
 use Rattle.zonetext.specs.declared.places.Place.{Place}
 use Rattle.zonetext.specs.declared.places.Place.TheVariants.{Before, Head, Between, Inside, After}
 use Rattle.zonetext.specs.Lines.{Lines, rest, line, cut, Said, odd, said}
-use Rattle.zonetext.specs.Reading.{State, Zone, start, move, step, zone_read, fails, is_after, ending, or_fail, run, reading, Room}
+use Rattle.zonetext.specs.Reading.{State, start, move, step, zone_read, fails, is_after, ending, or_fail, run, reading, Room}
 
 -- what is left of t from the byte a on gives what all of t gives
 abbrev pub Going : List ℕ → ℕ → State → Type 0

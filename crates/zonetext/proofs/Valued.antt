@@ -1,14 +1,13 @@
 -- Each value has one text. Assumes nothing.
-use Rattle.std.proofs.Common.{◌≡◌, ℕ, ◌+◌, ◌<◌, ◌≤◌, Bool, true, false, cond, ◌&&◌, eqb, List, [], ◌∷◌, ◌++◌, length, take, drop, ℤ, pos, negsuc, ◌+ℤ◌, ◌-ℤ◌, nat_abs, ◌≤ℤ◌, ◌<ℤ◌, Some, None, codes, Option, sym, refl, ap, ◌∙◌, subst, arith}
+use Rattle.std.proofs.Common.{◌≡◌, ℕ, ◌+◌, ◌<◌, Bool, true, false, cond, ◌&&◌, eqb, List, ◌++◌, length, take, drop, ℤ, pos, negsuc, nat_abs, Some, None, codes, Option, sym, refl, ap, ◌∙◌, arith}
 use lib.Signed.{lt_z, le_z}
 use Rattle.std.specs.Str.{bytes_eq}
 use Rattle.std.proofs.lemmas.Slice.Eq.{bytes_eq-Decides}
 use Rattle.std.proofs.lemmas.List.{length-append, take-append-drop, take_at, drop_at}
 use Rattle.std.proofs.lemmas.Int.{ints}
-use Rattle.std.proofs.lemmas.Bool.{cond-true, and_from, and_parts, eq-eqb, eqb-true}
+use Rattle.std.proofs.lemmas.Bool.{cond-true, and_from, and_parts, eq-eqb}
 use Rattle.calendar.specs.declared.dates.Seconds.{Seconds}
-use Rattle.calendar.specs.declared.dates.Stamp.{Stamp}
-use Rattle.calendar.specs.Calendar.{seconds, Valid, InRange}
+use Rattle.calendar.specs.Calendar.{seconds, InRange}
 use Rattle.fields.specs.declared.types.Offset.{Offset}
 use Rattle.fields.specs.Offsets.{InDay}
 use Rattle.fields.specs.Stamps.{stamp_read, stamp_text}

@@ -1,5 +1,5 @@
 -- A text as its lines, and a line as its parts. Assumes nothing.
-use Rattle.std.specs.Prelude.{◌≡◌, ℕ, ◌+◌, ◌<◌, Bool, true, false, cond, ◌&&◌, List, [], ◌∷◌, ◌++◌, Some, None, codes, Option, ◌==◌}
+use Rattle.std.specs.Prelude.{ℕ, cond, ◌&&◌, List, [], ◌∷◌, ◌++◌, Some, None, codes, Option, ◌==◌}
 use Rattle.std.specs.Str.{bytes_eq}
 use Rattle.zonetext.specs.declared.lines.Line.{Line}
 use Rattle.zonetext.specs.declared.lines.Line.TheVariants.{Begin, End, Property}

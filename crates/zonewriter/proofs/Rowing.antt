@@ -1,5 +1,5 @@
 -- The lines of a row, put one after another. Assumes nothing.
-use Rattle.std.proofs.Common.{◌≡◌, ℕ, ◌+◌, ◌-◌, ◌<◌, ◌≤◌, List, [], ◌∷◌, ◌++◌, length, take, ℤ, ◌+ℤ◌, codes, sym, refl, ap, ◌∙◌, subst, arith}
+use Rattle.std.proofs.Common.{◌≡◌, ℕ, ◌+◌, ◌-◌, ◌≤◌, List, [], ◌∷◌, ◌++◌, length, take, ◌+ℤ◌, codes, sym, refl, ap, ◌∙◌, arith}
 use Rattle.std.proofs.lemmas.List.{append_assoc, length-append}
 use Rattle.calendar.specs.declared.dates.Seconds.{Seconds}
 use Rattle.calendar.specs.declared.dates.Stamp.{Stamp}
@@ -14,7 +14,7 @@ use Rattle.zonetext.specs.Reading.{component}
 use Rattle.zonetext.specs.Stamps.{stamp_at}
 use Rattle.zonetext.specs.Writing.{line_text, start_text, row_text}
 use Rattle.zonetext.proofs.Counting.{stamp_back}
-use Rattle.zonewriter.specs.Buffers.{placed, Puts}
+use Rattle.zonewriter.specs.Buffers.{Puts}
 use Rattle.zonewriter.proofs.Placing.{puts_more, puts_same}
 
 -- the stamp that was found is the stamp at those seconds

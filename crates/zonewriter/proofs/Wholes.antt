@@ -1,17 +1,17 @@
 -- The whole text in the buffer, and when it is refused. Assumes nothing.
-use Rattle.std.proofs.Common.{◌≡◌, ℕ, ◌+◌, ◌<◌, ◌≤◌, Bool, true, false, cond, ◌&&◌, leb, List, [], ◌∷◌, ◌++◌, length, take, drop, vec_items, codes, sym, refl, ap, ◌∙◌, subst, arith}
+use Rattle.std.proofs.Common.{◌≡◌, ℕ, ◌+◌, ◌<◌, ◌≤◌, true, cond, ◌&&◌, leb, List, [], ◌++◌, length, take, drop, vec_items, codes, sym, ap, ◌∙◌, subst, arith}
 use Rattle.std.specs.List.{flat_map, AllByRecursion as All}
 use Rattle.std.proofs.lemmas.List.{append_assoc, take_at}
-use Rattle.std.proofs.lemmas.Bool.{and_from, and_right, and_left, and_parts, cond-true, cond-false, le-leb, lt-leb, leb-true}
+use Rattle.std.proofs.lemmas.Bool.{and_from, and_right, and_parts, cond-true, cond-false, le-leb, lt-leb, leb-true}
 use Rattle.names.specs.declared.name.Name.{Name}
 use Rattle.zone.specs.declared.rows.Row.{Row}
 use Rattle.zone.specs.declared.windows.Window.{Window}
-use Rattle.names.specs.Names.{is_name, is_text, name_bytes, spelled}
-use Rattle.zone.specs.Refusals.{Outcome, answered, refused}
+use Rattle.names.specs.Names.{is_name, name_bytes, spelled}
+use Rattle.zone.specs.Refusals.{answered, refused}
 use Rattle.zone.specs.Rows.{Sound, window_rows}
 use Rattle.zonetext.specs.Laws.{ReadsAs}
 use Rattle.zonetext.specs.Reading.{Zone, zone_in}
-use Rattle.zonetext.specs.Writing.{line_text, row_text, head_text, tail_text, text_of, IsZone, Writable}
+use Rattle.zonetext.specs.Writing.{line_text, row_text, head_text, text_of, IsZone, Writable}
 use Rattle.zonetext.proofs.Back.{back}
 use Rattle.zonetext.proofs.Fitting.{rows_writable}
 use Rattle.zonetext.proofs.Padding.{name_back}

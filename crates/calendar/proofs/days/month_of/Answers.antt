@@ -1,6 +1,6 @@
 -- The first guess is the month or the one before.
-use Rattle.std.proofs.Common.{ℕ, ◌+◌, ◌/◌, ◌<◌, ◌≤◌, arith}
-use Rattle.calendar.specs.Calendar.{month_days, days_before_month}
+use Rattle.std.proofs.Common.{ℕ, ◌+◌, ◌/◌, ◌<◌, arith}
+use Rattle.calendar.specs.Calendar.{month_days}
 use Rattle.calendar.proofs.Sum.{between_more, between_order, months_year, year_days_le}
 use Rattle.calendar.proofs.Closed.{month_guess, month_guess_next}
 use Rattle.calendar.proofs.days.month_of.Goals as goal

@@ -1,6 +1,6 @@
 -- The first guess is the year or the one before.
-use Rattle.std.proofs.Common.{ℕ, ◌+◌, ◌/◌, ◌<◌, ◌≤◌, arith}
-use Rattle.calendar.specs.Calendar.{year_days, days_before_year}
+use Rattle.std.proofs.Common.{ℕ, ◌+◌, ◌/◌, ◌<◌, arith}
+use Rattle.calendar.specs.Calendar.{year_days}
 use Rattle.calendar.proofs.Sum.{between_more, between_order}
 use Rattle.calendar.proofs.Closed.{year_guess, year_guess_next}
 use Rattle.calendar.proofs.days.year_of.Goals as goal

@@ -1,6 +1,5 @@
 -- The days of a valid stamp are few enough to fit.
-use Rattle.std.proofs.Common.{◌-◌, ◌<◌, arith, rules}
-use Rattle.calendar.specs.Calendar.{month_days}
+use Rattle.std.proofs.Common.{◌-◌, arith, rules}
 use Rattle.calendar.proofs.Unique.{day_small}
 use Rattle.calendar.proofs.stamps.seconds_of_valid.Goals as goal
 

@@ -1,4 +1,4 @@
-use Rattle.std.proofs.Common.{◌≡◌, ℕ, List, map, vec_items, sym, refl, ap, ◌∙◌, subst, arith}
+use Rattle.std.proofs.Common.{map, vec_items, sym, refl, ap, subst, arith}
 use Rattle.std.proofs.lemmas.List.{take_all}
 use Rattle.std.proofs.lemmas.Result.{IfOk-from_err}
 use Rattle.provider.specs.Whole.{meaning}
@@ -6,7 +6,6 @@ use Rattle.history.specs.Promises.{Replayed}
 use Rattle.history.specs.Sources.{publishing_source}
 use Rattle.history.proofs.Going.{going_ends}
 use Rattle.history.proofs.Promising.{histories_stand}
-use Rattle.client.specs.declared.listing.Entry.{Entry}
 use Rattle.client.specs.Listing.{entry_of, report_of}
 use Rattle.slots.specs.Seeing.{state_of}
 use Rattle.client.proofs.Starting.{agrees_new, matches_new, starts, goes_on_item}

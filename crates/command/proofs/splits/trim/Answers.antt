@@ -1,4 +1,4 @@
-use Rattle.std.proofs.Common.{◌≡◌, length, sym, ap, ◌∙◌, arith, eq-eqb}
+use Rattle.std.proofs.Common.{length, sym, ◌∙◌, arith, eq-eqb}
 use Rattle.std.proofs.lemmas.List.{drop_all, take_rest}
 use Rattle.std.proofs.lemmas.Bool.{ne_eqb}
 use Rattle.command.proofs.Splitting.{trimmed_more, trimmed_stop, trimmed_all}

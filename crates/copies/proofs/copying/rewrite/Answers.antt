@@ -1,4 +1,4 @@
-use Rattle.std.proofs.Common.{◌≡◌, ◌-◌, length, take, sym, ap, ◌∙◌}
+use Rattle.std.proofs.Common.{length, take, ap, ◌∙◌}
 use native.Mathlib.Nat.{sub-zero}
 use Rattle.zonetext.specs.Reading.{zone_in}
 use Rattle.copies.proofs.Again.{after_is, ok_same, not_same, err_fits}

@@ -1,4 +1,4 @@
-use Rattle.std.proofs.Common.{◌≡◌, sym, refl, ap, ◌∙◌}
+use Rattle.std.proofs.Common.{sym, ap, ◌∙◌}
 use Rattle.std.proofs.lemmas.List.{take_rest}
 use Rattle.copies.specs.Heads.{counted_after}
 use Rattle.copies.proofs.Counted.{too_few, no_word, no_digit, is_told}

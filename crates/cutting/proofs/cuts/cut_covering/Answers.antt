@@ -1,4 +1,4 @@
-use Rattle.std.proofs.Common.{◌≡◌, ◌≤◌, List, length, vec_items, sym, refl, ap, ◌∙◌, subst, le_trans, arith}
+use Rattle.std.proofs.Common.{◌≤◌, List, length, vec_items, sym, refl, ap, subst, le_trans, arith}
 use Rattle.std.proofs.lemmas.Bool.{leb-true}
 use Rattle.zone.specs.declared.rows.Row.{Row}
 use Rattle.zone.specs.Intervals.{era}

@@ -1,8 +1,8 @@
-use Rattle.std.proofs.Common.{◌≡◌, ℕ, cond, List, [], ℤ, vec_items, sym, ap, ◌∙◌, subst}
+use Rattle.std.proofs.Common.{◌≡◌, ℕ, List, ℤ, vec_items, sym, ap, ◌∙◌, subst}
 use Rattle.std.proofs.lemmas.Bool.{cond-true}
 use Rattle.zone.specs.declared.rows.Row.{Row}
 use Rattle.zone.specs.Intervals.{era, has_instant}
-use Rattle.zone.specs.Refusals.{Outcome, answered, refused}
+use Rattle.zone.specs.Refusals.{answered}
 use Rattle.zone.specs.Rows.{at, Covers, Offset}
 use Rattle.cutting.specs.declared.locals.Local.{Local}
 use Rattle.cutting.specs.Cutting.{by_row, in_force, local}

@@ -1,4 +1,3 @@
-use Rattle.std.proofs.Common.{◌≡◌}
 use Rattle.depot.proofs.stacks.replay_script.Goals as goal
 
 pub returns : goal.returns

@@ -1,9 +1,8 @@
-use Rattle.std.proofs.Common.{◌≡◌, sym, refl, ap, ◌∙◌}
+use Rattle.std.proofs.Common.{sym, refl, ap, ◌∙◌}
 use Rattle.std.proofs.lemmas.Bool.Decides.{not_from_Decides}
-use Rattle.zone.specs.Refusals.{Outcome, answered}
-use Rattle.cutting.specs.Outcomes.{CutTold}
+use Rattle.zone.specs.Refusals.{answered}
 use Rattle.cutting.proofs.Fits.{cut_fits}
-use Rattle.provider.specs.Fetching.{Answer, fresh}
+use Rattle.provider.specs.Fetching.{fresh}
 use Rattle.provider.proofs.Pages.{cut_done, says_fresh}
 use Rattle.provider.proofs.answers.answer_rows.Goals as goal
 

@@ -1,9 +1,9 @@
-use Rattle.std.proofs.Common.{◌≡◌, vec_items, sym, refl, ap, ◌∙◌}
+use Rattle.std.proofs.Common.{vec_items, sym, refl, ap, ◌∙◌}
 use Rattle.zone.specs.declared.windows.Window.{Window}
-use Rattle.zone.specs.Refusals.{Outcome, answered}
+use Rattle.zone.specs.Refusals.{answered}
 use Rattle.zone.specs.Rows.{Covers}
 use Rattle.cutting.proofs.Fits.{cut_fits}
-use Rattle.provider.specs.Fetching.{Answer, fresh}
+use Rattle.provider.specs.Fetching.{fresh}
 use Rattle.provider.proofs.Pages.{cut_done, cut_of_window, says_fresh, says_unchanged}
 use Rattle.provider.proofs.answers.answer_window.Goals as goal
 

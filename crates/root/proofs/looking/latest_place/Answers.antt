@@ -1,4 +1,4 @@
-use Rattle.std.proofs.Common.{◌≡◌, ℕ, ◌+◌, get_or, Option, sym, subst, inl, inr}
+use Rattle.std.proofs.Common.{ℕ, ◌+◌, get_or, Option, sym, subst, inl, inr}
 use Rattle.root.specs.Logs.{no_entry}
 use Rattle.root.specs.Latest.{same_name}
 use Rattle.root.proofs.Places.{Seen, seen_yes, seen_no, seen_all}

@@ -1,4 +1,4 @@
-use Rattle.std.proofs.Common.{◌≡◌, ◌+◌, ◌<◌, Bool, true, false, length, Some, None, sym, ap, ◌∙◌, arith}
+use Rattle.std.proofs.Common.{◌≡◌, ◌+◌, ◌<◌, Bool, length, Some, None, sym, ap, ◌∙◌, arith}
 use Rattle.script.specs.Scripts.{ended}
 use Rattle.script.specs.Drafts.{line_read}
 use Rattle.script.specs.Seeing.{read_of, told}

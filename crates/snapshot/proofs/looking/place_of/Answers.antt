@@ -1,8 +1,8 @@
-use Rattle.std.proofs.Common.{◌≡◌, Some, sym, ap, ◌∙◌, subst}
+use Rattle.std.proofs.Common.{Some, sym, ap, ◌∙◌}
 use Rattle.std.proofs.lemmas.List.{get_or_read}
 use Rattle.std.proofs.lemmas.Bool.Decides.{not_from_Decides}
 use Rattle.snapshot.specs.declared.zones.Zone.{Zone}
-use Rattle.snapshot.specs.Zones.{page, page_of}
+use Rattle.snapshot.specs.Zones.{page}
 use Rattle.snapshot.specs.Found.{page_here, page_later, page_none}
 use Rattle.snapshot.proofs.looking.place_of.Goals as goal
 

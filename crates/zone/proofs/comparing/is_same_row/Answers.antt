@@ -1,5 +1,5 @@
 -- The derived test goes field by field, and each field's tells whether the two are the same.
-use Rattle.std.proofs.Common.{◌≡◌, ap}
+use Rattle.std.proofs.Common.{ap}
 use Rattle.std.proofs.lemmas.Bool.Decides.{Decides-at, Decides-and, Decides-int_eq, Decides-like}
 use denote.Enum.Bare.{same_true, true_same}
 use Rattle.zone.specs.contracts.rows.Observance.{the_type}

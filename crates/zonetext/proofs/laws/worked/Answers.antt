@@ -1,4 +1,4 @@
-use Rattle.std.proofs.Common.{◌≡◌, List, [], ◌∷◌, ◌++◌, pos, Some, codes, refl}
+use Rattle.std.proofs.Common.{◌≡◌, [], ◌∷◌, ◌++◌, pos, Some, codes, refl}
 use Rattle.fields.specs.Offsets.{parsed, printed}
 use Rattle.fields.specs.Stamps.{stamp_read, stamp_text}
 use Rattle.zonetext.specs.Examples.{onset_said, lines_text, paris_head, paris, paris_text, broken_text}

@@ -1,4 +1,4 @@
-use Rattle.std.proofs.Common.{arith, rules}
+use Rattle.std.proofs.Common.{arith}
 use Rattle.zonetext.proofs.Cuts.{colon_more, colon_found, colon_none}
 use Rattle.zonetext.proofs.parting.colon.Goals as goal
 

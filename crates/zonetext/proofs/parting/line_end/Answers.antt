@@ -1,4 +1,4 @@
-use Rattle.std.proofs.Common.{arith, rules}
+use Rattle.std.proofs.Common.{arith}
 use Rattle.zonetext.proofs.Cuts.{line_more, line_found, line_none}
 use Rattle.zonetext.proofs.parting.line_end.Goals as goal
 use Rattle.zonetext.proofs.parting.line_end.Goals.{else-text-i-eq13-via-then-text-i-eq13+else-text-i-eq10, else-text-i-eq13-via-else-text-i-eq13}

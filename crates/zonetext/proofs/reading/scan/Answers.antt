@@ -1,4 +1,4 @@
-use Rattle.std.proofs.Common.{◌≡◌, sym, refl, ap, ◌∙◌, arith}
+use Rattle.std.proofs.Common.{arith}
 use Rattle.std.proofs.lemmas.List.{take_rest, length-drop}
 use Rattle.zonetext.specs.Reading.{state_of}
 use Rattle.zonetext.proofs.Turns.{going_start, turn_on, turn_stop, turn_late, turn_short, turn_done, step_odd, room_none, room_few}

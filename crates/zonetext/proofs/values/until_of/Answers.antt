@@ -1,4 +1,4 @@
-use Rattle.std.proofs.Common.{sym, ◌∙◌}
+use Rattle.std.proofs.Common.{◌∙◌}
 use Rattle.zonetext.proofs.Dated.{until_yes, until_long, until_local}
 use Rattle.zonetext.proofs.values.until_of.Goals as goal
 use Rattle.zonetext.proofs.values.until_of.Goals.{then-text-ne16-via-then-text-ne16, then-text-ne16-via-else-text-ne16+then-not-same}

@@ -1,4 +1,4 @@
-use Rattle.std.proofs.Common.{◌≡◌, ℕ, ◌-◌, ◌≤◌, List, length, take, ap, ◌∙◌, arith}
+use Rattle.std.proofs.Common.{◌-◌, ◌≤◌, length, take, ap, ◌∙◌, arith}
 use Rattle.fields.specs.Offsets.{printed}
 use Rattle.fields.specs.Stamps.{stamp_text}
 use Rattle.zonetext.specs.Stamps.{stamp_at}

@@ -1,4 +1,4 @@
-use Rattle.std.proofs.Common.{◌≡◌, ◌<◌, ◌≤◌, length, vec_items, sym, ap, ◌∙◌, arith}
+use Rattle.std.proofs.Common.{◌<◌, ◌≤◌, length, sym, ap, arith}
 use Rattle.zonetext.specs.Reading.{zone_in}
 use Rattle.zonetext.specs.Writing.{text_of}
 use Rattle.zonetext.proofs.Fitting.{end_range}

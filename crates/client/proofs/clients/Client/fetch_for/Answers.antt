@@ -1,12 +1,11 @@
-use Rattle.std.proofs.Common.{◌≡◌, cond, [], Some, None, Option, sym, refl, ap, ◌∙◌, subst}
+use Rattle.std.proofs.Common.{◌≡◌, cond, [], sym, ap, ◌∙◌, subst}
 use Rattle.provider.specs.declared.requests.Request.{Request}
 use Rattle.provider.specs.Fetching.{judged, fetched, Leaves}
 use Rattle.provider.specs.Whole.{meaning}
-use Rattle.history.specs.Cells.{State, cell_at}
+use Rattle.history.specs.Cells.{cell_at}
 use Rattle.history.specs.Steps.{Step, stays, handed_back, known_tag}
 use Rattle.slots.specs.Seeing.{state_of}
 use Rattle.slots.specs.Taking.{take_reply, received}
-use Rattle.slots.specs.Told.{request_for}
 use Rattle.slots.proofs.Requests.{request_says}
 use Rattle.client.specs.Agreeing.{Agrees}
 use Rattle.client.proofs.Agreement.{keeps_same, agrees_keeps, collected_agrees}

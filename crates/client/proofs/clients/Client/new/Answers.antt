@@ -1,7 +1,7 @@
 use Rattle.std.proofs.Common.{◌≡◌, ℕ, List, sym, ap, ◌∙◌, subst}
 use Rattle.provider.specs.Whole.{meaning}
 use Rattle.history.specs.Cells.{Cell, State, new_client}
-use Rattle.slots.specs.Seeing.{cells_of, state_of}
+use Rattle.slots.specs.Seeing.{state_of}
 use Rattle.client.proofs.Starting.{agrees_new}
 use Rattle.client.proofs.clients.Client.new.Goals as goal
 

@@ -1,4 +1,4 @@
-use Rattle.std.proofs.Common.{◌≡◌, length, vec_items, sym, refl, ap, ◌∙◌, arith}
+use Rattle.std.proofs.Common.{vec_items, refl, arith}
 use Rattle.slots.specs.Seeing.{state_of}
 use Rattle.client.proofs.Carried.{begin_refused, begin_done}
 use Rattle.slots.proofs.Finding.{cells_length}

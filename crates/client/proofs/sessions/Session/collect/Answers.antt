@@ -1,6 +1,5 @@
-use Rattle.std.proofs.Common.{◌≡◌, length, get_or, Some, None, vec_items, Option, sym, refl, ap, ◌∙◌, arith}
+use Rattle.std.proofs.Common.{◌≡◌, length, get_or, Some, None, vec_items, sym, ◌∙◌, arith}
 use Rattle.std.proofs.lemmas.List.{get_or_read}
-use Rattle.client.specs.declared.pending.PendingFetch.{PendingFetch}
 use Rattle.slots.specs.Seeing.{state_of}
 use Rattle.client.proofs.Carried.{collect_done, collect_refused}
 use Rattle.slots.proofs.Finding.{cells_length}

@@ -1,4 +1,4 @@
-use Rattle.std.proofs.Common.{◌≡◌, None, Option, arith}
+use Rattle.std.proofs.Common.{None, Option, arith}
 use Rattle.std.proofs.lemmas.List.{replicate_more}
 use Rattle.client.specs.declared.pending.PendingFetch.{PendingFetch}
 use Rattle.client.proofs.sessions.Session.new.Goals as goal

@@ -1,4 +1,4 @@
-use Rattle.std.proofs.Common.{◌≡◌, List, [], ◌∷◌, ◌++◌, map, None, vec_items, Option, sym, ap, ◌∙◌, arith}
+use Rattle.std.proofs.Common.{map, None, vec_items, Option, ap, arith}
 use Rattle.std.proofs.lemmas.List.{replicate_more, map_push}
 use Rattle.kept.specs.Keeping.{Kept, kept_in}
 use Rattle.kept.proofs.places.Places.new.Goals as goal

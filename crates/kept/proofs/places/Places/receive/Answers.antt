@@ -1,5 +1,4 @@
-use Rattle.std.proofs.Common.{◌≡◌, refl, ap, ◌∙◌}
-use Rattle.kept.specs.declared.steps.Step.{Step}
+use Rattle.std.proofs.Common.{ap, ◌∙◌}
 use Rattle.kept.specs.Keeping.{kept, serving}
 use Rattle.kept.specs.Stepping.{answer_by, kept_by}
 use Rattle.kept.proofs.Chosen.{passed_on}

@@ -1,4 +1,4 @@
-use Rattle.std.proofs.Common.{◌≡◌, sym, ap, ◌∙◌, arith}
+use Rattle.std.proofs.Common.{sym, ◌∙◌, arith}
 use Rattle.std.proofs.lemmas.Bool.{ne_eqb}
 use Rattle.names.proofs.Spelling.{left_name, left_late, left_zero, left_other, left_none, unpadded, padded_name}
 use Rattle.names.proofs.name.Name.is_valid.Goals as goal

@@ -1,4 +1,4 @@
-use Rattle.std.proofs.Common.{◌≡◌, subst}
+use Rattle.std.proofs.Common.{subst}
 use Rattle.provider.specs.declared.requests.Request.{Request}
 use Rattle.provider.specs.Fetching.{Fetched}
 use Rattle.provider.specs.Whole.{meaning}

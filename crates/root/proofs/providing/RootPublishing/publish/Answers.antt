@@ -1,5 +1,5 @@
-use Rattle.std.proofs.Common.{◌≡◌, true, ◌&&◌, ltb, length, vec_items, vec_len, sym, refl, ap, ◌∙◌, subst}
-use Rattle.zone.specs.Refusals.{Outcome, answered}
+use Rattle.std.proofs.Common.{◌≡◌, true, ◌&&◌, ltb, length, vec_items, vec_len, sym, ap, ◌∙◌, subst}
+use Rattle.zone.specs.Refusals.{answered}
 use Rattle.zone.proofs.Testing.{decides_era_table}
 use Rattle.provider.specs.Meaning.{last_edition}
 use Rattle.root.specs.Order.{InOrder}

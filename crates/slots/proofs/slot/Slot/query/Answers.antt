@@ -1,11 +1,10 @@
-use Rattle.std.proofs.Common.{◌≡◌, ℕ, Bool, true, false, cond, List, [], ℤ, Some, None, vec_items, Option, sym, refl, arith}
+use Rattle.std.proofs.Common.{◌≡◌, ℕ, Bool, true, false, cond, List, [], ℤ, Some, None, vec_items, Option, arith}
 use Rattle.zone.specs.declared.windows.Window.{Window}
 use Rattle.zone.specs.Intervals.{has_instant}
 use Rattle.zone.specs.Refusals.{Outcome, answered, refused}
-use Rattle.cutting.specs.declared.locals.Local.{Local}
 use Rattle.cutting.specs.Outcomes.{local_outcome}
 use Rattle.history.specs.Cells.{State}
-use Rattle.history.specs.Steps.{Step, queried_copy}
+use Rattle.history.specs.Steps.{queried_copy}
 use Rattle.slots.specs.declared.slot.Version.{Version}
 use Rattle.slots.specs.Seeing.{copy_of}
 use Rattle.slots.proofs.slot.Slot.query.Goals as goal

@@ -1,13 +1,12 @@
-use Rattle.std.proofs.Common.{◌≡◌, ℕ, true, cond, List, Some, None, vec_items, Option, sym, refl, ap, ◌∙◌, arith}
+use Rattle.std.proofs.Common.{◌≡◌, ℕ, true, List, Some, None, vec_items, Option, sym, ap, ◌∙◌, arith}
 use Rattle.zone.specs.declared.rows.Interval.{Interval}
 use Rattle.zone.specs.declared.rows.Row.{Row}
 use Rattle.zone.specs.declared.windows.Window.{Window}
 use Rattle.zone.specs.Intervals.{within}
-use Rattle.zone.specs.Rows.{Covers}
 use Rattle.cutting.specs.Cutting.{cut}
 use Rattle.cutting.proofs.Fits.{cut_fits}
 use Rattle.provider.proofs.Pages.{cut_done, cut_of_window}
-use Rattle.history.specs.Cells.{Cell, Copy}
+use Rattle.history.specs.Cells.{Cell}
 use Rattle.slots.specs.declared.slot.Slot.{Slot}
 use Rattle.slots.specs.declared.slot.Version.{Version}
 use Rattle.slots.specs.Seeing.{copy_of}

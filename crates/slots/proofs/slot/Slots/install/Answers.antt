@@ -1,6 +1,6 @@
-use Rattle.std.proofs.Common.{Some, None, vec_items, refl, ap}
+use Rattle.std.proofs.Common.{Some, None, ap}
 use Rattle.zone.specs.declared.windows.Window.{Window}
-use Rattle.history.specs.Cells.{Cell, Copy}
+use Rattle.history.specs.Cells.{Cell}
 use Rattle.slots.specs.Seeing.{copy_of}
 use Rattle.slots.proofs.Finding.{cell_made}
 use Rattle.slots.proofs.slot.Slots.install.Goals as goal

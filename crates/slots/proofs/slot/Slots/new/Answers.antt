@@ -1,4 +1,4 @@
-use Rattle.std.proofs.Common.{◌≡◌, List, [], ◌∷◌, ◌++◌, map, vec_items, sym, ap, ◌∙◌, arith}
+use Rattle.std.proofs.Common.{map, vec_items, ap, arith}
 use Rattle.std.proofs.lemmas.List.{replicate_more, map_push}
 use Rattle.history.specs.Cells.{Cell, free}
 use Rattle.slots.specs.Seeing.{cell_of}

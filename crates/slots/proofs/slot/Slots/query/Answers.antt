@@ -1,10 +1,10 @@
-use Rattle.std.proofs.Common.{◌≡◌, ℕ, true, cond, [], ℤ, Some, None, Ok, Err, Option, Result, sym, refl, ap, ◌∙◌}
+use Rattle.std.proofs.Common.{◌≡◌, ℕ, true, cond, [], ℤ, Some, Ok, Err, Option, Result, sym, refl, ap, ◌∙◌}
 use Rattle.names.specs.declared.name.Name.{Name}
 use Rattle.zone.specs.declared.refusals.Refusal.{Refusal}
 use Rattle.names.specs.Names.{is_name}
-use Rattle.zone.specs.Refusals.{Outcome, answered, refused}
+use Rattle.zone.specs.Refusals.{refused}
 use Rattle.history.specs.Cells.{Cell, State, cell_at, place_of}
-use Rattle.history.specs.Steps.{Step, settled, query_place, query_step, queried_copy}
+use Rattle.history.specs.Steps.{settled, query_place, query_step, queried_copy}
 use Rattle.slots.specs.declared.answers.Answer.{Answer}
 use Rattle.slots.specs.Seeing.{cell_of, state_of}
 use Rattle.slots.specs.Told.{answer_outcome, ComesTo, query_report}

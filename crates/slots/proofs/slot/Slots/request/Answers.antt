@@ -1,4 +1,4 @@
-use Rattle.std.proofs.Common.{◌≡◌, get_or, Some, None, sym, ap, ◌∙◌}
+use Rattle.std.proofs.Common.{get_or, sym, ap, ◌∙◌}
 use Rattle.history.specs.Cells.{Cell, free}
 use Rattle.slots.specs.Seeing.{cells_of}
 use Rattle.slots.proofs.Finding.{cell_there}

@@ -1,4 +1,4 @@
-use Rattle.std.proofs.Common.{cond, ◌&&◌, [], sym, refl}
+use Rattle.std.proofs.Common.{refl}
 use Rattle.truncation.specs.Meanings.{truncated_published}
 use Rattle.truncation.proofs.truncations.TruncationPublishing.publish.Goals as goal
 

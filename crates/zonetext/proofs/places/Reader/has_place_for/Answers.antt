@@ -1,4 +1,4 @@
-use Rattle.std.proofs.Common.{◌≤◌, length, arith}
+use Rattle.std.proofs.Common.{arith}
 use Rattle.zonetext.proofs.Closing.{comes_later}
 use Rattle.zonetext.proofs.places.Reader.has_place_for.Goals as goal
 
