@@ -72,7 +72,9 @@ fn cuts_of_the_year(rt: HostRuntime) -> Result<(), Fail> {
     };
     assert_eq!(rt; cut_window(&window, summer, &mut place), Ok(()));
     assert_eq!(rt; place.interval, summer);
-    assert!(rt; place.rows.as_slice() == &[row(1711846800, 3600, 7200, Observance::Daylight)]);
+    assert!(rt;
+        place.rows.as_slice() == [row(1711846800, 3600, 7200, Observance::Daylight)].as_slice()
+    );
     let later = Interval {
         start: 1711846801,
         end: 1729990801,
@@ -81,10 +83,11 @@ fn cuts_of_the_year(rt: HostRuntime) -> Result<(), Fail> {
     assert_eq!(rt; place.interval, later);
     assert!(rt;
         place.rows.as_slice()
-            == &[
+            == [
                 row(1711846801, 7200, 7200, Observance::Daylight),
                 row(1729990800, 7200, 3600, Observance::Standard),
             ]
+            .as_slice()
     );
     Ok(())
 }
