@@ -1,6 +1,6 @@
 -- The lengths and the bytes of the texts.
 use Rattle.std.proofs.Common.{◌≡◌, ℕ, ◌+◌, ◌/◌, ◌%◌, ◌<◌, List, ◌∷◌, ◌++◌, length, ℤ, pos, negsuc, nat_abs, sym, refl, ap, subst, inl, inr, ⊎_elim, arith}
-use Rattle.std.specs.List.{AllByRecursion as All}
+use Rattle.std.specs.List.{AllByRecursion}
 use Rattle.std.proofs.ByRecursion.{All-append}
 use Rattle.std.proofs.lemmas.Bool.{cases_eq}
 use Rattle.calendar.specs.declared.dates.Stamp.{Stamp}
@@ -17,25 +17,25 @@ digit_byte : (n : ℕ) → n < 10 → FieldByte (48 + n)
 digit_byte n h = record { above = omega arith; below = omega arith; no_colon = λ e. omega arith }
 
 -- two digits are plain bytes
-pub two_bytes : (n : ℕ) → n < 100 → All FieldByte (two n)
+pub two_bytes : (n : ℕ) → n < 100 → AllByRecursion FieldByte (two n)
 two_bytes n h = (digit_byte (n / 10) (omega arith), (digit_byte (n % 10) (omega arith), tt))
 
 sign_plain : (n : ℤ) → FieldByte (sign n)
 sign_plain (pos n) = record { above = omega arith; below = omega arith; no_colon = λ e. omega arith }
 sign_plain (negsuc n) = record { above = omega arith; below = omega arith; no_colon = λ e. omega arith }
 
-seconds_bytes : (s : ℕ) → s < 60 → All FieldByte (seconds_part s)
+seconds_bytes : (s : ℕ) → s < 60 → AllByRecursion FieldByte (seconds_part s)
 seconds_bytes s h =
     ⊎_elim
-    (λ e. subst (λ l. All FieldByte l) (sym (seconds_none s e)) tt)
-    (λ e. subst (λ l. All FieldByte l) (sym (seconds_some s e)) (two_bytes s (omega arith)))
+    (λ e. subst (λ l. AllByRecursion FieldByte l) (sym (seconds_none s e)) tt)
+    (λ e. subst (λ l. AllByRecursion FieldByte l) (sym (seconds_some s e)) (two_bytes s (omega arith)))
     (cases_eq s 0)
 
 -- two digits before plain bytes
-pub two_before : (n : ℕ) (l : List ℕ) → n < 100 → All FieldByte l → All FieldByte (two n ++ l)
+pub two_before : (n : ℕ) (l : List ℕ) → n < 100 → AllByRecursion FieldByte l → AllByRecursion FieldByte (two n ++ l)
 two_before n l h w = All-append FieldByte (two n) l (two_bytes n h) w
 
-pub offset_bytes : (z : Offset) → InDay z → All FieldByte (printed z)
+pub offset_bytes : (z : Offset) → InDay z → AllByRecursion FieldByte (printed z)
 unfolding printed
 offset_bytes z h =
     let n : ℕ = nat_abs z.0 in (
@@ -55,12 +55,12 @@ pub stamp_length : (d : Stamp) → length (stamp_text d) ≡ 15
 unfolding stamp_text
 stamp_length d = refl
 
-time_bytes : (d : Stamp) → DigitsSay (stamp_text d) d → All FieldByte (time_text d)
+time_bytes : (d : Stamp) → DigitsSay (stamp_text d) d → AllByRecursion FieldByte (time_text d)
 time_bytes d w =
     two_before d.hour (two d.minute ++ two d.second) w.hours.below
     (two_before d.minute (two d.second) w.minutes.below (two_bytes d.second w.seconds.below))
 
-pub stamp_bytes : (d : Stamp) → Valid d → All FieldByte (stamp_text d)
+pub stamp_bytes : (d : Stamp) → Valid d → AllByRecursion FieldByte (stamp_text d)
 unfolding stamp_text
 stamp_bytes d v =
     let w = valid_digits d v in

@@ -1,6 +1,6 @@
 -- The laws of the texts, and worked examples.
 use Rattle.std.specs.Prelude.{◌≡◌, ℕ, ◌%◌, ◌<◌, ◌⊎◌, List, length, pos, negsuc, Some, None, codes, ◌≢◌, unsigned_abs}
-use Rattle.std.specs.List.{AllByRecursion as All}
+use Rattle.std.specs.List.{AllByRecursion}
 use Rattle.calendar.specs.declared.dates.Stamp.{Stamp}
 use Rattle.calendar.specs.Calendar.{Valid}
 use Rattle.calendar.specs.Laws.{at_hour}
@@ -25,11 +25,11 @@ pub record FieldsLaws : Type 0 where
   pub offset_back : (z : Offset) → InDay z → parsed (printed z) ≡ Some z
   pub offset_only : (t : List ℕ) (z : Offset) → parsed t ≡ Some z → InDay z × (t ≡ printed z)
   pub offset_length : (z : Offset) → OffsetLength z
-  pub offset_bytes : (z : Offset) → InDay z → All FieldByte (printed z)
+  pub offset_bytes : (z : Offset) → InDay z → AllByRecursion FieldByte (printed z)
   pub stamp_back : (d : Stamp) → Valid d → stamp_read (stamp_text d) ≡ Some d
   pub stamp_only : (t : List ℕ) (d : Stamp) → stamp_read t ≡ Some d → Valid d × (t ≡ stamp_text d)
   pub stamp_length : (d : Stamp) → length (stamp_text d) ≡ 15
-  pub stamp_bytes : (d : Stamp) → Valid d → All FieldByte (stamp_text d)
+  pub stamp_bytes : (d : Stamp) → Valid d → AllByRecursion FieldByte (stamp_text d)
 
 -- known texts and what they say
 pub record Worked : Type 0 where

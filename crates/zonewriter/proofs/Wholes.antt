@@ -1,6 +1,6 @@
 -- The whole text in the buffer, and when it is refused. Assumes nothing.
 use Rattle.std.proofs.Common.{◌≡◌, ℕ, ◌+◌, ◌<◌, ◌≤◌, true, cond, ◌&&◌, leb, List, [], ◌++◌, length, take, drop, vec_items, codes, sym, ap, ◌∙◌, subst, arith}
-use Rattle.std.specs.List.{flat_map, AllByRecursion as All}
+use Rattle.std.specs.List.{flat_map, AllByRecursion}
 use Rattle.std.proofs.lemmas.List.{append_assoc, take_at}
 use Rattle.std.proofs.lemmas.Bool.{and_from, and_right, and_parts, cond-true, cond-false, le-leb, lt-leb, leb-true}
 use Rattle.names.specs.declared.name.Name.{Name}
@@ -29,8 +29,8 @@ name_short bytes l h =
     let p = and_parts (leb 1 (length t)) (leb (length t) 48 && name_bytes t) (name_back bytes l h).0 in
     leb-true (length t) 48 (and_parts (leb (length t) 48) (name_bytes t) p.1).0
 
-pub window_writable : (w : Window) (rows : List Row) → rows ≡ vec_items w.rows → All Writable rows
-window_writable w rows e = subst (All Writable) (sym e) (rows_writable window_rows w.interval (vec_items w.rows) (window_sound w))
+pub window_writable : (w : Window) (rows : List Row) → rows ≡ vec_items w.rows → AllByRecursion Writable rows
+window_writable w rows e = subst (AllByRecursion Writable) (sym e) (rows_writable window_rows w.interval (vec_items w.rows) (window_sound w))
 
 pub zone_there : (n : Name) (w : Window) → length n.bytes ≡ 48 → is_name n.bytes ≡ true → IsZone (zone_in n w)
 zone_there n w l h = record { long = l; named = h; window = window_sound w }

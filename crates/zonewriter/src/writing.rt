@@ -1,6 +1,6 @@
 // The text of a zone over a window, written into a buffer.
 ghost use Rattle.std.specs.Prelude.{◌≡◌, ◌+◌, ◌≤◌, length};
-ghost use Rattle.std.specs.List.{flat_map, AllByRecursion as All};
+ghost use Rattle.std.specs.List.{flat_map, AllByRecursion};
 ghost use Rattle.calendar.specs.Calendar.{InRange};
 ghost use Rattle.zone.specs.Refusals.{outcome};
 ghost use Rattle.zonetext.specs.Reading.{zone_in};
@@ -23,7 +23,7 @@ const FRAME_BYTES: usize = 65;
 
 // The length of the text with this name and these rows.
 fn text_len(name: &[u8], rows: &[Row]) -> usize
-    requires { (length name.now ≤ 48) × ((length rows.now ≤ 64) × (All Writable rows.now)) }
+    requires { (length name.now ≤ 48) × ((length rows.now ≤ 64) × (AllByRecursion Writable rows.now)) }
     ensures { result ≡ 65 + length name.now + length (flat_map row_text rows.now) }
 {
     let mut len = FRAME_BYTES + name.len();
@@ -64,7 +64,7 @@ fn put_head(buffer: &mut [u8], name: &[u8], interval: Interval) -> usize
 
 // Puts the texts of the rows at `at`, and answers where they end.
 fn put_rows(buffer: &mut [u8], at: usize, rows: &[Row]) -> usize
-    requires { (All Writable rows.now) × (at + length (flat_map row_text rows.now) ≤ length buffer.old) }
+    requires { (AllByRecursion Writable rows.now) × (at + length (flat_map row_text rows.now) ≤ length buffer.old) }
     ensures { Puts buffer.old at (flat_map row_text rows.now) buffer.new result }
 {
     let mut end = at;
