@@ -1,8 +1,10 @@
 -- Comparisons of rows, decided. Assumes nothing.
-use Rattle.std.proofs.Common.{◌≡◌, true, false, ◌&&◌, List, [], ◌∷◌, ℤ, Decides, refl, ap, ◌∙◌, inl, inr}
+use Rattle.std.proofs.Common.{◌≡◌, Bool, true, false, ◌&&◌, List, [], ◌∷◌, ℤ, int_eq, Decides, refl, ap, ◌∙◌, inl, inr}
 use Rattle.names.proofs.Ordered.{names_ordered}
 use Rattle.std.proofs.lemmas.Bool.{cases_Bool}
-use Rattle.std.proofs.lemmas.Bool.Decides.{Decides-like, Decides-and}
+use Rattle.std.proofs.lemmas.Bool.Decides.{Decides-at, Decides-and, Decides-int_eq, Decides-like}
+use denote.Enum.Bare.{sameb, same_true, true_same}
+use Rattle.zone.specs.contracts.rows.Observance.{the_type}
 use Rattle.zone.specs.declared.rows.Observance.{Observance}
 use Rattle.zone.specs.declared.rows.Observance.TheVariants.{Standard, Daylight}
 use Rattle.zone.specs.declared.rows.Row.{Row}
@@ -15,7 +17,7 @@ decides_observance Standard Daylight = (λ h. cc, λ h. cc)
 decides_observance Daylight Standard = (λ h. cc, λ h. cc)
 decides_observance Daylight Daylight = (λ _. refl, λ _. refl)
 
-pub row_from : (a b : Row) → a.onset ≡ b.onset → a.from ≡ b.from → a.to ≡ b.to → a.observance ≡ b.observance → a ≡ b
+row_from : (a b : Row) → a.onset ≡ b.onset → a.from ≡ b.from → a.to ≡ b.to → a.observance ≡ b.observance → a ≡ b
 row_from a b o f t v =
     let first : ℤ → Row = λ x. record { onset = x; from = a.from; to = a.to; observance = a.observance } in
     let second : ℤ → Row = λ x. record { onset = b.onset; from = x; to = a.to; observance = a.observance } in
@@ -27,6 +29,12 @@ decides_row : (a b : Row) → Decides (same_row a b) (a ≡ b)
 decides_row a b =
     Decides-like (same_row a b) (λ h. row_from a b h.0 h.1.0 h.1.1.0 h.1.1.1) (λ q. (ap (λ (x : Row). x.onset) q, (ap (λ (x : Row). x.from) q, (ap (λ (x : Row). x.to) q, ap (λ (x : Row). x.observance) q))))
     (Decides-and _ _ (decides_same a.onset b.onset) (Decides-and _ _ (decides_same a.from b.from) (Decides-and _ _ (decides_same a.to b.to) (decides_observance a.observance b.observance))))
+
+-- the derived test of two rows goes field by field, and each field's tells whether the two are the same
+pub derived_row : (a b : Row) (r : Bool) → r ≡ (int_eq a.onset b.onset && (int_eq a.from b.from && (int_eq a.to b.to && sameb the_type a.observance b.observance))) → Decides r (a ≡ b)
+derived_row a b r e =
+    Decides-at r _ e (Decides-like _ (λ h. row_from a b h.0 h.1.0 h.1.1.0 h.1.1.1) (λ q. (ap (λ (x : Row). x.onset) q, (ap (λ (x : Row). x.from) q, (ap (λ (x : Row). x.to) q, ap (λ (x : Row). x.observance) q))))
+    (Decides-and _ _ (Decides-int_eq a.onset b.onset) (Decides-and _ _ (Decides-int_eq a.from b.from) (Decides-and _ _ (Decides-int_eq a.to b.to) (same_true the_type tt a.observance b.observance, true_same the_type a.observance b.observance)))))
 
 -- the test of rows tells whether they are the same
 pub decides_rows : (a b : List Row) → Decides (same_rows a b) (a ≡ b)
