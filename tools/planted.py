@@ -197,6 +197,8 @@ def write(sections):
 
 def main(words):
     """Plants the bugs of the crates that are named."""
+    if not EDITS.is_dir():
+        sys.exit("no bugs are written down, so nothing was tried: tools/planted/ is not there")
     crates = [word for word in words if word != "--write"] or sorted(path.stem for path in EDITS.glob("*.edits"))
     survived, sections, count = 0, {}, defaultdict(int)
     for crate in crates:

@@ -69,6 +69,6 @@ abbrev pub taken_report : Result ℕ Refusal → ℕ → Interval → Report
 taken_report (Ok e) k i = collected e
 taken_report (Err r) k i = handed_back (number r) (values r) k i
 
--- the same, where the slot is pending with the interval, else 10
+-- the step by the reply, where the slot is pending with the interval, else 10
 abbrev pub received : State → ℕ → Interval → Result Reply Refusal → Window → Step
 received s k i r w = cond (is_pending (cell_at s k).pending i) (take_reply s k i r w) (stays s (handed_back 10 [] k i))

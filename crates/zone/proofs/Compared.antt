@@ -25,16 +25,18 @@ row_from a b o f t v =
     let fourth : Observance → Row = λ x. record { onset = b.onset; from = b.from; to = b.to; observance = x } in
     ap first o ∙ (ap second f ∙ (ap third t ∙ ap fourth v))
 
-decides_row : (a b : Row) → Decides (same_row a b) (a ≡ b)
-decides_row a b =
-    Decides-like (same_row a b) (λ h. row_from a b h.0 h.1.0 h.1.1.0 h.1.1.1) (λ q. (ap (λ (x : Row). x.onset) q, (ap (λ (x : Row). x.from) q, (ap (λ (x : Row). x.to) q, ap (λ (x : Row). x.observance) q))))
-    (Decides-and _ _ (decides_same a.onset b.onset) (Decides-and _ _ (decides_same a.from b.from) (Decides-and _ _ (decides_same a.to b.to) (decides_observance a.observance b.observance))))
+-- tests of two rows field by field, each of which tells whether the two are the same
+decides_fields : (a b : Row) (o f t v : Bool) → Decides o (a.onset ≡ b.onset) → Decides f (a.from ≡ b.from) → Decides t (a.to ≡ b.to) → Decides v (a.observance ≡ b.observance) → Decides (o && (f && (t && v))) (a ≡ b)
+decides_fields a b o f t v p q r s =
+    Decides-like (o && (f && (t && v))) (λ h. row_from a b h.0 h.1.0 h.1.1.0 h.1.1.1) (λ e. (ap (λ (x : Row). x.onset) e, (ap (λ (x : Row). x.from) e, (ap (λ (x : Row). x.to) e, ap (λ (x : Row). x.observance) e))))
+    (Decides-and o (f && (t && v)) p (Decides-and f (t && v) q (Decides-and t v r s)))
 
--- the derived test of two rows goes field by field, and each field's tells whether the two are the same
+decides_row : (a b : Row) → Decides (same_row a b) (a ≡ b)
+decides_row a b = decides_fields a b _ _ _ _ (decides_same a.onset b.onset) (decides_same a.from b.from) (decides_same a.to b.to) (decides_observance a.observance b.observance)
+
+-- the derived test of two rows
 pub derived_row : (a b : Row) (r : Bool) → r ≡ (int_eq a.onset b.onset && (int_eq a.from b.from && (int_eq a.to b.to && sameb the_type a.observance b.observance))) → Decides r (a ≡ b)
-derived_row a b r e =
-    Decides-at r _ e (Decides-like _ (λ h. row_from a b h.0 h.1.0 h.1.1.0 h.1.1.1) (λ q. (ap (λ (x : Row). x.onset) q, (ap (λ (x : Row). x.from) q, (ap (λ (x : Row). x.to) q, ap (λ (x : Row). x.observance) q))))
-    (Decides-and _ _ (Decides-int_eq a.onset b.onset) (Decides-and _ _ (Decides-int_eq a.from b.from) (Decides-and _ _ (Decides-int_eq a.to b.to) (same_true the_type tt a.observance b.observance, true_same the_type a.observance b.observance)))))
+derived_row a b r e = Decides-at r _ e (decides_fields a b _ _ _ _ (Decides-int_eq a.onset b.onset) (Decides-int_eq a.from b.from) (Decides-int_eq a.to b.to) (same_true the_type tt a.observance b.observance, true_same the_type a.observance b.observance))
 
 -- the test of rows tells whether they are the same
 pub decides_rows : (a b : List Row) → Decides (same_rows a b) (a ≡ b)
