@@ -3,8 +3,9 @@ ghost use Rattle.std.specs.Prelude.{◌≡◌};
 ghost use Rattle.zone.specs.Observances.{StandsFor, observance_number};
 
 /// The kind of a row, as RFC 5545 calls it: standard time or daylight saving time.
-#[derive(Clone, Copy, PartialEq, Eq, Debug)]
+#[derive(Clone, Copy, PartialEq, Eq, Debug, Default)]
 pub enum Observance {
+    #[default]
     Standard,
     Daylight,
 }
@@ -40,7 +41,7 @@ impl TryFrom<u8> for Observance {
 }
 
 /// From its onset on, local time is `to` seconds ahead of UTC; just before the onset it was `from` seconds ahead.
-#[derive(Clone, Copy, PartialEq, Eq, Debug)]
+#[derive(Clone, Copy, PartialEq, Eq, Debug, Default)]
 pub struct Row {
     pub onset: i64,
     pub from: i32,
