@@ -6,7 +6,6 @@ ghost use Rattle.zonetext.specs.Lines.{seen};
 ghost use Rattle.zonetext.specs.Reading.{Room, Takes, closed as closed_by, component, follows as follows_it, in_head, in_row, inside, may_come, row_of, state_of, step as stepped};
 
 use super::lines::Line;
-use super::parting::same;
 use super::places::{Part, Place, Reader};
 use super::values::{start_of, until_of};
 use super::words::*;
@@ -87,12 +86,12 @@ impl<'a> Reader<'a> {
         ensures { Takes (in_head named (state_of self.old) (seen (Some line.entry))) result self.new }
     {
         match (named, line) {
-            (false, Line::Property(name, value)) if same(name, TZID) && is_name_text(value) => {
+            (false, Line::Property(name, value)) if name == TZID && is_name_text(value) => {
                 self.name = value;
                 self.place = Place::Head(true);
                 true
             }
-            (true, Line::Property(name, value)) if same(name, TZUNTIL) => match until_of(value) {
+            (true, Line::Property(name, value)) if name == TZUNTIL => match until_of(value) {
                 Some(until) => {
                     self.until = until;
                     self.place = Place::Between;
@@ -110,7 +109,7 @@ impl<'a> Reader<'a> {
         ensures { Takes (in_row observance part (state_of self.old) (seen (Some line.entry))) result self.new }
     {
         match (part, line) {
-            (Part::Empty, Line::Property(name, value)) if same(name, DTSTART) => match start_of(
+            (Part::Empty, Line::Property(name, value)) if name == DTSTART => match start_of(
                 value,
             ) {
                 Some(start) => {
@@ -119,7 +118,7 @@ impl<'a> Reader<'a> {
                 }
                 None => false,
             },
-            (Part::Started(start), Line::Property(name, value)) if same(name, TZOFFSETFROM) =>
+            (Part::Started(start), Line::Property(name, value)) if name == TZOFFSETFROM =>
                 match parse_offset(value) {
                     Some(from) => {
                         self.place = Place::Inside(observance, Part::Left(start, from));
@@ -127,7 +126,7 @@ impl<'a> Reader<'a> {
                     }
                     None => false,
                 },
-            (Part::Left(start, from), Line::Property(name, value)) if same(name, TZOFFSETTO) =>
+            (Part::Left(start, from), Line::Property(name, value)) if name == TZOFFSETTO =>
                 match parse_offset(value) {
                     Some(to) => {
                         self.place = Place::Inside(observance, Part::Full(start, from, to));
@@ -136,7 +135,7 @@ impl<'a> Reader<'a> {
                     None => false,
                 },
             (Part::Full(start, from, to), Line::End(value))
-                if same(value, component_of(observance)) => self.close(observance, start, from, to),
+                if value == component_of(observance) => self.close(observance, start, from, to),
             _ => false,
         }
     }
@@ -147,22 +146,22 @@ impl<'a> Reader<'a> {
         ensures { Takes (stepped (state_of self.old) (seen (Some line.entry))) result self.new }
     {
         match (self.place, line) {
-            (Place::Before, Line::Begin(value)) if same(value, VTIMEZONE) => {
+            (Place::Before, Line::Begin(value)) if value == VTIMEZONE => {
                 self.place = Place::Head(false);
                 true
             }
             (Place::Head(named), _) => self.step_in_head(named, line),
             (Place::Between, Line::Begin(value))
-                if self.count < WINDOW_ROWS && same(value, STANDARD) => {
+                if self.count < WINDOW_ROWS && value == STANDARD => {
                 self.place = Place::Inside(Observance::Standard, Part::Empty);
                 true
             }
             (Place::Between, Line::Begin(value))
-                if self.count < WINDOW_ROWS && same(value, DAYLIGHT) => {
+                if self.count < WINDOW_ROWS && value == DAYLIGHT => {
                 self.place = Place::Inside(Observance::Daylight, Part::Empty);
                 true
             }
-            (Place::Between, Line::End(value)) if self.count > 0 && same(value, VTIMEZONE) => {
+            (Place::Between, Line::End(value)) if self.count > 0 && value == VTIMEZONE => {
                 self.place = Place::After;
                 true
             }
