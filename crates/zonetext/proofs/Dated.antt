@@ -1,7 +1,9 @@
 -- The values of the dated lines. Assumes nothing.
-use Rattle.std.proofs.Common.{◌≡◌, ℕ, ◌+◌, ◌-◌, true, false, ◌⊎◌, eqb, List, length, take, drop, ℤ, Some, None, codes, Option, sym, refl, ap, ◌∙◌, inl, inr, arith}
+use Rattle.std.proofs.Common.{◌≡◌, ℕ, ◌+◌, ◌-◌, true, false, ◌⊎◌, eqb, List, length, take, drop, ℤ, Some, None, Ok, Err, codes, Option, Result, sym, refl, ap, ◌∙◌, inl, inr, arith}
+use Rattle.std.specs.Result.{result_ok}
 use Rattle.std.specs.Str.{bytes_eq}
 use Rattle.std.proofs.lemmas.Bool.{cases_eq, cond-true, cond-false, and_from, and_left, and_right, eq-eqb, ne_eqb}
+use Rattle.calendar.specs.declared.dates.InvalidStamp.{InvalidStamp}
 use Rattle.calendar.specs.declared.dates.Seconds.{Seconds}
 use Rattle.calendar.specs.declared.dates.Stamp.{Stamp}
 use Rattle.calendar.specs.Calendar.{SecondsFound}
@@ -16,10 +18,10 @@ use Rattle.zonetext.proofs.Valued.{start_only}
 abbrev some_seconds : ℤ → Option Seconds
 some_seconds z = Some (record { 0 = z })
 
-pub start_some : (t : List ℕ) (d : Stamp) (r : Option Seconds) → Some d ≡ stamp_read t → SecondsFound d r → r ≡ start_read t
+pub start_some : (t : List ℕ) (d : Stamp) (r : Result Seconds InvalidStamp) (o : Option Seconds) → Some d ≡ stamp_read t → SecondsFound d r → o ≡ result_ok r → o ≡ start_read t
 unfolding start_read
-start_some t d (Some n) e f = ap some_seconds f.value ∙ ap (λ o. after o clocked) e
-start_some t d None e f = absurd (f (read_only t d (sym e)).0)
+start_some t d (Ok n) o e f g = g ∙ ap some_seconds f.value ∙ ap (λ o. after o clocked) e
+start_some t d (Err x) o e f g = absurd (f (read_only t d (sym e)).0)
 
 pub start_none : (t : List ℕ) → None ≡ stamp_read t → None ≡ start_read t
 unfolding start_read

@@ -27,15 +27,17 @@ refused_says (Err e) t w i h = λ z is. never (number e) (values e) z (h ∙ (on
 pub read_some : (r : Reader) (t : List ℕ) → answered (zone_read (state_of r)) ≡ reading t → 0 < length r.rows.items
 read_some r t h = (only t (zone_read (state_of r)) (sym h)).0.window.covers.begins.0
 
+-- its rows and its interval are those of a window
+pub read_sound : (r : Reader) (t : List ℕ) (given : Interval) (rs : List Row) → answered (zone_read (state_of r)) ≡ reading t → given ≡ between (at r.rows.items 0).onset r.until.0 → rs ≡ r.rows.items → Sound window_rows given rs
+read_sound r t given rs h g l =
+    let s = (only t (zone_read (state_of r)) (sym h)).0.window in
+    subst (λ i. Sound window_rows i rs) (sym g) (subst (Sound window_rows (between (at r.rows.items 0).onset r.until.0)) (sym l) s)
+
 -- the window is filled with what the reader holds
-pub read_filled : (r : Reader) (t : List ℕ) (n : Name) (w : Window) (b : Bool) (given : Interval) (rs : List Row) → answered (zone_read (state_of r)) ≡ reading t → n.bytes ≡ held r.name.now
-    → given ≡ between (at r.rows.items 0).onset r.until.0 → rs ≡ r.rows.items → Decides b (Sound window_rows given rs)
-    → (b ≡ true → (w.interval ≡ given) × (w.rows.items ≡ rs))
+pub read_filled : (r : Reader) (t : List ℕ) (n : Name) (w : Window) (given : Interval) (rs : List Row) → answered (zone_read (state_of r)) ≡ reading t → n.bytes ≡ held r.name.now
+    → given ≡ between (at r.rows.items 0).onset r.until.0 → rs ≡ r.rows.items → (w.interval ≡ given) × (w.rows.items ≡ rs)
     → (answered (zone_in n w) ≡ reading t) × IsTextOf t (zone_in n w)
-read_filled r t n w b given rs h e g l tells fills =
+read_filled r t n w given rs h e g l f =
     let z = zone_read (state_of r) in
-    let o = only t z (sym h) in
-    let sound : Sound window_rows given rs = subst (λ i. Sound window_rows i rs) (sym g) (subst (Sound window_rows (between (at r.rows.items 0).onset r.until.0)) (sym l) o.0.window) in
-    let f = fills (tells.1 sound) in
     let same : zone_in n w ≡ z = λ j. zone (e j) ((f.0 ∙ g) j) ((f.1 ∙ l) j) in
-    (ap answered same ∙ h, subst (IsTextOf t) (sym same) o)
+    (ap answered same ∙ h, subst (IsTextOf t) (sym same) (only t z (sym h)))

@@ -66,6 +66,6 @@ pub fn read(text: &[u8], window: &mut Window) -> Result<Name, Refusal>
     ensures one_text { OneText }
 {
     let reader = scan(text).map_err(|offset| Refusal::BadText { offset })?;
-    let _ = window.fill(reader.interval(), &reader.rows);
+    window.fill(reader.interval(), &reader.rows).unwrap();
     Ok(Name::from_text(reader.name))
 }

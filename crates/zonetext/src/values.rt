@@ -4,7 +4,6 @@ ghost use Rattle.zonetext.specs.Values.{start_read, until_at, until_read};
 
 use super::words::UTC;
 use calendar::dates::Seconds;
-use calendar::stamps::seconds_of;
 use fields::stamps::parse_stamp;
 use zone::intervals::ERA;
 use zone::rows::Instant;
@@ -13,7 +12,7 @@ use zone::rows::Instant;
 pub(crate) fn start_of(text: &[u8]) -> Option<Seconds>
     ensures { result ≡ start_read text.now }
 {
-    seconds_of(parse_stamp(text)?)
+    Seconds::try_from(parse_stamp(text)?).ok()
 }
 
 // The end of a window, if some window can end there.
