@@ -9,7 +9,8 @@ use Rattle.zone.specs.declared.rows.Interval.{Interval}
 use Rattle.zone.specs.declared.rows.Row.{Row}
 use Rattle.zone.specs.Intervals.{era, has_instant}
 use Rattle.zone.specs.Rows.{at, no_row, Offset, Joined, Small, Sound, window_rows}
-use Rattle.zonetext.specs.Reading.{inside, follows, may_come}
+use Rattle.zone.specs.Tables.{follows}
+use Rattle.zonetext.specs.Reading.{inside, may_come}
 
 -- of rows that are read, up to the window's end u
 pub record Kept (u : ℤ) (rs : List Row) : Type 0 where
