@@ -142,13 +142,13 @@ module _ (n : List ℕ) (u : Instant) (rs : List Row) where
   step_row Daylight h = cond-true (ltb (length rs) window_rows) (Some (state (Inside Daylight Empty) n u rs)) None (lt-ltb (length rs) 64 h)
 
   step_start : (o : Observance) (z : ℤ) → InRange z → step (state (Inside o Empty) n u rs) (property (codes "DTSTART") (stamp_text (stamp_at z))) ≡ Some (state (Inside o (Started (record { 0 = z }))) n u rs)
-  step_start o z h = ap (λ q. option_map (λ d. state (Inside o (Started d)) n u rs) q) (start_there z h)
+  step_start o z h = ap (λ q. option_map (λ r. state (Inside o r) n u rs) (option_map Started q)) (start_there z h)
 
   step_from : (o : Observance) (d : Seconds) (x : Offset) → InDay x → step (state (Inside o (Started d)) n u rs) (property (codes "TZOFFSETFROM") (printed x)) ≡ Some (state (Inside o (Left d x)) n u rs)
-  step_from o d x h = ap (λ q. option_map (λ y. state (Inside o (Left d y)) n u rs) q) (parsed_printed x h)
+  step_from o d x h = ap (λ q. option_map (λ r. state (Inside o r) n u rs) (option_map (Left d) q)) (parsed_printed x h)
 
   step_to : (o : Observance) (d : Seconds) (x y : Offset) → InDay y → step (state (Inside o (Left d x)) n u rs) (property (codes "TZOFFSETTO") (printed y)) ≡ Some (state (Inside o (Full d x y)) n u rs)
-  step_to o d x y h = ap (λ q. option_map (λ w. state (Inside o (Full d x w)) n u rs) q) (parsed_printed y h)
+  step_to o d x y h = ap (λ q. option_map (λ r. state (Inside o r) n u rs) (option_map (Full d x) q)) (parsed_printed y h)
 
   step_end : (o : Observance) (d : Seconds) (x y : Offset) (r : Row) → row_of o d x y ≡ r → may_come u rs r ≡ true → step (state (Inside o (Full d x y)) n u rs) (end (component o)) ≡ Some (state Between n u (rs ++ r ∷ []))
   step_end o d x y r e m =

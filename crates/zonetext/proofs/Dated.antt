@@ -1,8 +1,9 @@
 -- The values of the dated lines. Assumes nothing.
-use Rattle.std.proofs.Common.{◌≡◌, ℕ, ◌+◌, ◌-◌, true, false, ◌⊎◌, eqb, List, length, take, drop, ℤ, Some, None, Ok, Err, codes, Option, Result, sym, refl, ap, ◌∙◌, inl, inr, arith}
+use Rattle.std.proofs.Common.{◌≡◌, ℕ, ◌-◌, ◌<◌, true, false, ◌⊎◌, eqb, List, length, take, drop, ℤ, Some, None, Ok, Err, codes, Option, Result, sym, refl, ap, ◌∙◌, inl, inr, arith}
 use Rattle.std.specs.Result.{result_ok}
 use Rattle.std.specs.Option.{option_map, option_and_then}
 use Rattle.std.specs.Str.{bytes_eq}
+use Rattle.std.proofs.lemmas.List.{length-take-le}
 use Rattle.std.proofs.lemmas.Bool.{cases_eq, cond-true, cond-false, and_from, and_left, and_right, eq-eqb, ne_eqb}
 use Rattle.calendar.specs.declared.dates.InvalidStamp.{InvalidStamp}
 use Rattle.calendar.specs.declared.dates.Seconds.{Seconds}
@@ -23,10 +24,6 @@ pub start_some : (t : List ℕ) (d : Stamp) (r : Result Seconds InvalidStamp) (o
 unfolding start_read
 start_some t d (Ok n) o e f g = g ∙ ap some_seconds f.value ∙ ap (λ o. option_map clocked o) e
 start_some t d (Err x) o e f g = absurd (f (read_only t d (sym e)).0)
-
-pub start_none : (t : List ℕ) → None ≡ stamp_read t → None ≡ start_read t
-unfolding start_read
-start_none t e = ap (λ o. option_map clocked o) e
 
 -- a text of another length says no local time
 start_short : (t : List ℕ) → (length t ≡ 15 → ⊥) → start_read t ≡ None
@@ -51,11 +48,12 @@ until_local t z = elim (cases_eq (length t) 16) [
   | inr n ↦ sym (until_no t (inl n))
 ]
 
-pub until_utc : (t l : List ℕ) (o : Option Seconds) → bytes_eq (drop (length t - 1) t) (codes "Z") ≡ true → l ≡ take (length t - 1) t → length l + 1 ≡ length t → o ≡ start_read l → option_and_then until_at o ≡ until_read t
-until_utc t l o z is n e = elim (cases_eq (length t) 16) [
+pub until_utc : (t : List ℕ) → 0 < length t → bytes_eq (drop (length t - 1) t) (codes "Z") ≡ true → until_read t ≡ option_and_then until_at (start_read (take (length t - 1) t))
+until_utc t n z = elim (cases_eq (length t) 16) [
   | inl m ↦
       let k : length t - 1 ≡ 15 = omega arith in
-      ap (λ x. option_and_then until_at x) (e ∙ ap start_read (is ∙ ap (λ k. take k t) k))
-      ∙ sym (until_yes t m (ap (λ k. bytes_eq (drop k t) (codes "Z")) (sym k) ∙ z))
-  | inr m ↦ ap (λ x. option_and_then until_at x) (e ∙ start_short l (λ q. m (omega arith))) ∙ sym (until_no t (inl m))
+      until_yes t m (ap (λ k. bytes_eq (drop k t) (codes "Z")) (sym k) ∙ z) ∙ ap (λ k. option_and_then until_at (start_read (take k t))) (sym k)
+  | inr m ↦
+      let l : length (take (length t - 1) t) ≡ length t - 1 = length-take-le (length t - 1) t (omega arith) in
+      until_no t (inl m) ∙ ap (option_and_then until_at) (sym (start_short (take (length t - 1) t) (λ q. m (omega arith))))
 ]

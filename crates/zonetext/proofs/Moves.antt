@@ -17,6 +17,7 @@ use Rattle.zone.specs.declared.rows.Observance.TheVariants.{Standard, Daylight}
 use Rattle.zone.specs.Intervals.{era}
 use Rattle.names.specs.Names.{is_text}
 use Rattle.zone.specs.Rows.{window_rows}
+use Rattle.zonetext.specs.declared.places.Part.{Part}
 use Rattle.zonetext.specs.declared.places.Part.TheVariants.{Empty, Started, Left, Full}
 use Rattle.zonetext.specs.declared.places.Place.{Place}
 use Rattle.zonetext.specs.declared.places.Place.TheVariants.{Head, Named, Between, Inside, After}
@@ -46,13 +47,6 @@ module _ (t s : State) where
   abbrev To : Place → List ℕ → Instant → Type 0
   To p n u = s ≡ state p n u t.rows
 
-  -- a property of this name, with a value
-  valued : {X : Type 0} (p n : List ℕ) (o : Option X) (f : X → State) → cond (bytes_eq p n) (option_map f o) None ≡ Some s → (x : X) × (p ≡ n) × (o ≡ Some x) × (s ≡ f x)
-  valued p n o f e =
-      let a = cond_in _ _ s e in
-      let b = map_in o f s a.1 in
-      (b.0, same_is p n a.0, b.1, sym b.2)
-
   pub front_only : (w : Said) → in_front t w ≡ Some s → (w ≡ begin (codes "VTIMEZONE")) × To Head t.name t.until
   front_only (begin v) e = let p = cond_some _ _ s e in (ap begin (same_is v _ p.0), sym p.1)
   front_only (end v) e = cc
@@ -72,9 +66,10 @@ module _ (t s : State) where
   until_line (begin v) e = cc
   until_line (end v) e = cc
   until_line (property p v) e =
-      let a = valued p _ (until_read v) _ e in
-      let c = until_only v a.0 a.2 in
-      (a.0, (λ j. property (a.1 j) (c.0 j)), c.2, a.3)
+      let a = cond_in _ _ s e in
+      let b = map_in (until_read v) _ s a.1 in
+      let c = until_only v b.0 b.1 in
+      (b.0, (λ j. property (same_is p _ a.0 j) (c.0 j)), c.2, sym b.2)
   until_line odd e = cc
 
   pub between_only : (w : Said) → in_between t w ≡ Some s
@@ -90,11 +85,19 @@ module _ (t s : State) where
   between_only (property p v) e = cc
   between_only odd e = cc
 
+  -- a property of a row
+  parted : {X : Type 0} (o : Observance) (p n : List ℕ) (x : Option X) (f : X → Part) → option_map (λ r. state (Inside o r) t.name t.until t.rows) (cond (bytes_eq p n) (option_map f x) None) ≡ Some s → (y : X) × (p ≡ n) × (x ≡ Some y) × To (Inside o (f y)) t.name t.until
+  parted o p n x f e =
+      let a = map_in _ _ s e in
+      let b = cond_in _ _ a.0 a.1 in
+      let c = map_in x f a.0 b.1 in
+      (c.0, same_is p n b.0, c.1, sym (ap (λ r. state (Inside o r) t.name t.until t.rows) c.2 ∙ a.2))
+
   pub start_line : (o : Observance) (w : Said) → in_row o Empty t w ≡ Some s → (d : Seconds) × (w ≡ property (codes "DTSTART") (stamp_text (stamp_at d.0))) × To (Inside o (Started d)) t.name t.until
   start_line o (begin v) e = cc
   start_line o (end v) e = cc
   start_line o (property p v) e =
-      let a = valued p _ (start_read v) _ e in
+      let a = parted o p _ (start_read v) _ e in
       (a.0, (λ j. property (a.1 j) (start_only v a.0 a.2 j)), a.3)
   start_line o odd e = cc
 
@@ -102,7 +105,7 @@ module _ (t s : State) where
   from_line o d (begin v) e = cc
   from_line o d (end v) e = cc
   from_line o d (property p v) e =
-      let a = valued p _ (parsed v) _ e in
+      let a = parted o p _ (parsed v) _ e in
       let c = parsed_only v a.0 a.2 in
       (a.0, (λ j. property (a.1 j) (c.1 j)), c.0, a.3)
   from_line o d odd e = cc
@@ -111,7 +114,7 @@ module _ (t s : State) where
   to_line o d x (begin v) e = cc
   to_line o d x (end v) e = cc
   to_line o d x (property p v) e =
-      let a = valued p _ (parsed v) _ e in
+      let a = parted o p _ (parsed v) _ e in
       let c = parsed_only v a.0 a.2 in
       (a.0, (λ j. property (a.1 j) (c.1 j)), c.0, a.3)
   to_line o d x odd e = cc

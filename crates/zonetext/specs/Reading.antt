@@ -98,14 +98,18 @@ in_between s odd = None
 abbrev pub closed : State → Row → Option State
 closed s row = if may_come s.until s.rows row then Some (state Between s.name s.until (s.rows ++ row ∷ [])) else None
 
--- a line inside a row
+-- what has been read of a row with one more property: its onset in local time, then the two offsets
+abbrev pub part_with : Part → List ℕ → List ℕ → Option Part
+part_with Empty p v = if bytes_eq p (codes "DTSTART") then option_map Started (start_read v) else None
+part_with (Started d) p v = if bytes_eq p (codes "TZOFFSETFROM") then option_map (Left d) (parsed v) else None
+part_with (Left d x) p v = if bytes_eq p (codes "TZOFFSETTO") then option_map (Full d x) (parsed v) else None
+part_with (Full d x y) p v = None
+
+-- a line inside a row: a property of it, or its end
 abbrev pub in_row : Observance → Part → State → Said → Option State
 in_row o q s (begin v) = None
+in_row o q s (property p v) = option_map (λ r. state (Inside o r) s.name s.until s.rows) (part_with q p v)
 in_row o q s odd = None
-in_row o Empty s (property p v) = if bytes_eq p (codes "DTSTART") then option_map (λ d. state (Inside o (Started d)) s.name s.until s.rows) (start_read v) else None
-in_row o (Started d) s (property p v) = if bytes_eq p (codes "TZOFFSETFROM") then option_map (λ x. state (Inside o (Left d x)) s.name s.until s.rows) (parsed v) else None
-in_row o (Left d x) s (property p v) = if bytes_eq p (codes "TZOFFSETTO") then option_map (λ y. state (Inside o (Full d x y)) s.name s.until s.rows) (parsed v) else None
-in_row o (Full d x y) s (property p v) = None
 in_row o Empty s (end v) = None
 in_row o (Started d) s (end v) = None
 in_row o (Left d x) s (end v) = None
