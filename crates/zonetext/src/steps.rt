@@ -40,7 +40,7 @@ fn observance_of(name: &[u8]) -> Option<Observance>
 
 // The row that these lines say, if its onset can be held.
 fn row_from(observance: Observance, start: Seconds, from: Offset, to: Offset) -> Option<Row>
-    ensures { MatchOption result (FitsSigned w64 (start.0 -ℤ from.0) → ⊥) (λ row. row ≡ row_of observance start from to) }
+    ensures { MatchOption result (¬ (FitsSigned w64 (start.0 -ℤ from.0))) (λ row. row ≡ row_of observance start from to) }
 {
     let onset = start.0.checked_sub(from.0 as i64)?;
     Some(Row {
