@@ -2,6 +2,7 @@
 use Rattle.std.proofs.Common.{◌≡◌, ℕ, ◌+◌, ◌<◌, ◌≤◌, true, not, ◌&&◌, eqb, ltb, leb, List, [], ◌∷◌, ◌++◌, length, ℤ, pos, ◌+ℤ◌, ◌-ℤ◌, Some, None, codes, sym, refl, ap, ◌∙◌, subst, arith}
 use lib.Signed.{lt_z, le_z}
 use Rattle.std.specs.List.{AllByRecursion as All}
+use Rattle.std.specs.Option.{option_map}
 use Rattle.std.specs.Str.{bytes_eq}
 use Rattle.std.proofs.lemmas.Slice.Eq.{bytes_eq-Decides}
 use Rattle.std.proofs.lemmas.List.{append_assoc, append-nil, length-append}
@@ -29,7 +30,6 @@ use Rattle.zonetext.specs.Laws.{ReadsAs, OneText, TextsStand}
 use Rattle.zonetext.specs.Lines.{Lines, rest, line, unlines, cut, Said, begin, end, property, said, split}
 use Rattle.zonetext.specs.Reading.{State, Zone, zone, state, start, component, row_of, may_come, closed, step, zone_read, run, reading}
 use Rattle.zonetext.specs.Stamps.{stamp_at}
-use Rattle.zonetext.specs.Values.{after}
 use Rattle.zonetext.specs.Writing.{start_text, until_text, text_of, IsZone, Writable}
 use Rattle.zonetext.proofs.Counting.{stamp_there}
 use Rattle.zonetext.proofs.Gluing.{bare, row_lines, lines_of, text_unlined, plain, cut_line}
@@ -135,20 +135,20 @@ module _ (n : List ℕ) (u : Instant) (rs : List Row) where
   step_name m h = cond-true (is_text m) (Some (state Named m u rs)) None h
 
   step_until : (z : ℤ) → lt_z era.start z ≡ true → le_z z era.end ≡ true → step (state Named n u rs) (property (codes "TZUNTIL") (until_text z)) ≡ Some (state Between n (record { 0 = z }) rs)
-  step_until z a b = ap (λ o. after o (λ v. Some (state Between n v rs))) (until_there z a b)
+  step_until z a b = ap (λ o. option_map (λ v. state Between n v rs) o) (until_there z a b)
 
   step_row : (o : Observance) → length rs < window_rows → step (state Between n u rs) (begin (component o)) ≡ Some (state (Inside o Empty) n u rs)
   step_row Standard h = cond-true (ltb (length rs) window_rows) (Some (state (Inside Standard Empty) n u rs)) None (lt-ltb (length rs) 64 h)
   step_row Daylight h = cond-true (ltb (length rs) window_rows) (Some (state (Inside Daylight Empty) n u rs)) None (lt-ltb (length rs) 64 h)
 
   step_start : (o : Observance) (z : ℤ) → InRange z → step (state (Inside o Empty) n u rs) (property (codes "DTSTART") (stamp_text (stamp_at z))) ≡ Some (state (Inside o (Started (record { 0 = z }))) n u rs)
-  step_start o z h = ap (λ q. after q (λ d. Some (state (Inside o (Started d)) n u rs))) (start_there z h)
+  step_start o z h = ap (λ q. option_map (λ r. state (Inside o r) n u rs) (option_map Started q)) (start_there z h)
 
   step_from : (o : Observance) (d : Seconds) (x : Offset) → InDay x → step (state (Inside o (Started d)) n u rs) (property (codes "TZOFFSETFROM") (printed x)) ≡ Some (state (Inside o (Left d x)) n u rs)
-  step_from o d x h = ap (λ q. after q (λ y. Some (state (Inside o (Left d y)) n u rs))) (parsed_printed x h)
+  step_from o d x h = ap (λ q. option_map (λ r. state (Inside o r) n u rs) (option_map (Left d) q)) (parsed_printed x h)
 
   step_to : (o : Observance) (d : Seconds) (x y : Offset) → InDay y → step (state (Inside o (Left d x)) n u rs) (property (codes "TZOFFSETTO") (printed y)) ≡ Some (state (Inside o (Full d x y)) n u rs)
-  step_to o d x y h = ap (λ q. after q (λ w. Some (state (Inside o (Full d x w)) n u rs))) (parsed_printed y h)
+  step_to o d x y h = ap (λ q. option_map (λ r. state (Inside o r) n u rs) (option_map (Full d x) q)) (parsed_printed y h)
 
   step_end : (o : Observance) (d : Seconds) (x y : Offset) (r : Row) → row_of o d x y ≡ r → may_come u rs r ≡ true → step (state (Inside o (Full d x y)) n u rs) (end (component o)) ≡ Some (state Between n u (rs ++ r ∷ []))
   step_end o d x y r e m =

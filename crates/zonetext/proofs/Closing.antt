@@ -6,7 +6,8 @@ use Rattle.zone.specs.declared.rows.Instant.{Instant}
 use Rattle.zone.specs.declared.rows.Row.{Row}
 use Rattle.zone.specs.Intervals.{era, has_instant}
 use Rattle.zone.specs.Rows.{at}
-use Rattle.zonetext.specs.Reading.{State, inside, follows, may_come, closed}
+use Rattle.zone.specs.Tables.{follows}
+use Rattle.zonetext.specs.Reading.{State, inside, may_come, closed}
 
 -- the row goes on from the last one, if there is one
 pub comes_next : (u : Instant) (rows : List Row) (last : Option (Bor Row)) (row : Row) (r : Bool) → MatchOption last (length rows ≡ 0) (λ x. (0 < length rows) × (x.now ≡ at rows (length rows - 1))) → inside u row ≡ true → MatchOption last (r ≡ true) (λ x. r ≡ follows x.now row) → r ≡ may_come u rows row

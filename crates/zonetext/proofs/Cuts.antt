@@ -1,9 +1,8 @@
 -- The first CR LF of a text ends its first line, and the first colon of a line parts it. Assumes nothing.
-use Rattle.std.proofs.Common.{◌≡◌, ℕ, zero, suc, ◌+◌, ◌-◌, ◌<◌, ◌≤◌, true, false, ◌&&◌, eqb, List, [], ◌∷◌, ◌++◌, length, get_or, take, drop, Some, None, MatchOption, Option, codes, sym, refl, ap, ◌∙◌, subst, ⊎_elim, arith}
-use Rattle.std.proofs.lemmas.List.{drop_more, take_more, append-nil, take-append-drop, length-drop, drop_all, take_rest}
+use Rattle.std.proofs.Common.{◌≡◌, ℕ, zero, suc, ◌+◌, ◌-◌, ◌<◌, ◌≤◌, false, ◌&&◌, eqb, List, [], ◌∷◌, ◌++◌, length, get_or, take, drop, Some, None, MatchOption, Option, sym, refl, ap, ◌∙◌, subst, ⊎_elim, arith}
+use Rattle.std.proofs.lemmas.List.{drop_more, take_more, append-nil, take-append-drop, length-drop, drop_all}
 use Rattle.std.proofs.lemmas.Bool.{eq-eqb, ne_eqb, cases_eq, cond-true, cond-false, and_left, and_right}
-use Rattle.std.specs.Str.{bytes_eq}
-use Rattle.zonetext.specs.Lines.{Lines, rest, line, glue, cut, whole, apart, grow, split, begin, end, property, odd, said, said_by}
+use Rattle.zonetext.specs.Lines.{Lines, rest, line, glue, cut, whole, apart, grow, split}
 
 -- f at each byte, from the last to the first
 abbrev each : {K : Type 0} → (ℕ → K → K) → List ℕ → K → K
@@ -121,24 +120,3 @@ colon_sofar t (suc n) l h =
 pub colon_is : (t : List ℕ) (r : Option ℕ) → IsFirst (λ k. get_or t k 0 ≡ 58) (length t) r → MatchOption r (split t ≡ whole) (λ n. (n < length t) × (split t ≡ apart (take n t) (drop (n + 1) t)))
 colon_is t None h = colon_none t (length t) (omega arith) (colon_sofar t (length t) (omega arith) h)
 colon_is t (Some n) h = (h.0, colon_found t n h.0 h.1 (colon_sofar t n (omega (arith, h.0)) h.2))
-
--- what is said, by the parts
-pub said_whole : (l : List ℕ) → split l ≡ whole → odd ≡ said l
-unfolding said
-said_whole l e = sym (ap said_by e)
-
-pub said_begin : (l n v : List ℕ) → split l ≡ apart n v → bytes_eq n (codes "BEGIN") ≡ true → begin v ≡ said l
-unfolding said
-said_begin l n v e h = sym (ap said_by e ∙ cond-true _ (begin v) _ h)
-
-pub said_end : (l n v : List ℕ) → split l ≡ apart n v → bytes_eq n (codes "BEGIN") ≡ false → bytes_eq n (codes "END") ≡ true → end v ≡ said l
-unfolding said
-said_end l n v e h k = sym (ap said_by e ∙ cond-false _ (begin v) _ h ∙ cond-true _ (end v) (property n v) k)
-
-pub said_property : (l n v : List ℕ) → split l ≡ apart n v → bytes_eq n (codes "BEGIN") ≡ false → bytes_eq n (codes "END") ≡ false → property n v ≡ said l
-unfolding said
-said_property l n v e h k = sym (ap said_by e ∙ cond-false _ (begin v) _ h ∙ cond-false _ (end v) (property n v) k)
-
--- the parts as the code has them, &l[..n] and &l[n + 1..]
-pub as_slices : (l : List ℕ) (n : ℕ) → split l ≡ apart (take n l) (drop (n + 1) l) → split l ≡ apart (take n l) (take (length l - (n + 1)) (drop (n + 1) l))
-as_slices l n e = e ∙ ap (apart (take n l)) (sym (take_rest l (n + 1)))

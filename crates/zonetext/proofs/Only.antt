@@ -30,16 +30,6 @@ use Rattle.zonetext.proofs.Padding.{held_long}
 use Rattle.zonetext.proofs.Turns.{run_on, run_stop, run_rest, reading_is}
 use Rattle.zonetext.proofs.Valued.{day_small}
 
--- a refusal is no answer
-bad : {A : Type 0} (o : ℕ) (z : Zone) → fails o ≡ answered z → A
-bad o z e = let q : ◌≡◌ {A = ℕ} 0 1 = cc in absurd (omega arith)
-
-answer_is : (a z : Zone) → answered a ≡ answered z → z ≡ a
-answer_is a z e = cc
-
-none_some : {A : Type 0} (s : State) → ◌≡◌ {A = Option State} None (Some s) → A
-none_some s e = let z : ◌≡◌ {A = ℕ} 0 1 = cc in absurd (omega arith)
-
 -- one line on
 record Next (s : State) (o : ℕ) (l : List ℕ) (ls : Lines) (z : Zone) : Type 0 where
   to : State
@@ -49,7 +39,7 @@ record Next (s : State) (o : ℕ) (l : List ℕ) (ls : Lines) (z : Zone) : Type 
 next : (s : State) (o : ℕ) (l : List ℕ) (ls : Lines) (z : Zone) → run s o (line l ls) ≡ answered z → Next s o l ls z
 next s o l ls z g = by (step s (said l)) refl where
   by : (r : Option State) → step s (said l) ≡ r → Next s o l ls z
-  by None e = bad o z (sym (run_stop s o l ls e) ∙ g)
+  by None e = let z : fails o ≡ answered z = sym (run_stop s o l ls e) ∙ g in cc
   by (Some s') e = record { to = s'; by = e; goes = sym (run_on s s' o l ls e) ∙ g }
 
 -- the lines from a place between rows on, and what they come to
@@ -100,16 +90,16 @@ Remains After n u acc ls z = (ls ≡ rest []) × (z ≡ zone_read (state After n
 
 -- the text ends
 ended : (p : Place) (n : List ℕ) (u : Instant) (acc : List Row) (o : ℕ) (t : List ℕ) (z : Zone) → ending (state p n u acc) o t ≡ answered z → Remains p n u acc (rest t) z
-ended Before n u acc o [] z e = bad _ z e
-ended Named n u acc o [] z e = bad _ z e
-ended Head n u acc o [] z e = bad _ z e
-ended Between n u acc o [] z e = bad _ z e
-ended (Inside b Empty) n u acc o [] z e = bad _ z e
-ended (Inside b (Started d)) n u acc o [] z e = bad _ z e
-ended (Inside b (Left d x)) n u acc o [] z e = bad _ z e
-ended (Inside b (Full d x y)) n u acc o [] z e = bad _ z e
-ended After n u acc o [] z e = (refl, answer_is _ z e)
-ended p n u acc o (c ∷ t) z e = bad _ z e
+ended Before n u acc o [] z e = cc
+ended Named n u acc o [] z e = cc
+ended Head n u acc o [] z e = cc
+ended Between n u acc o [] z e = cc
+ended (Inside b Empty) n u acc o [] z e = cc
+ended (Inside b (Started d)) n u acc o [] z e = cc
+ended (Inside b (Left d x)) n u acc o [] z e = cc
+ended (Inside b (Full d x y)) n u acc o [] z e = cc
+ended After n u acc o [] z e = (refl, cc)
+ended p n u acc o (c ∷ t) z e = cc
 
 -- to take the offset away and add it again
 back_again : (a b : ℤ) → (a -ℤ b) +ℤ b ≡ a
@@ -203,7 +193,8 @@ left (line l ls) z (Inside q (Full d x y)) n u acc o g =
     (ls, ap (λ k. line k ls) (text_end l (component q) b.0), record { comes = b.1; then = c })
 left (line l ls) z After n u acc o g =
     let a = next (state After n u acc) o l ls z g in
-    none_some a.to a.by
+    let z : None ≡ Some a.to = a.by in
+    cc
 
 -- what is read is a zone, and its text is the text
 pub only : (t : List ℕ) (z : Zone) → ReadsAs t z → IsTextOf t z

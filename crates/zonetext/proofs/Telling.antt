@@ -1,5 +1,5 @@
 -- What a call that reads a text tells. Assumes nothing.
-use Rattle.std.proofs.Common.{◌≡◌, ℕ, ◌<◌, Bool, true, List, length, Ok, Err, IsErr, Decides, Result, sym, ap, ◌∙◌, subst, arith}
+use Rattle.std.proofs.Common.{◌≡◌, ℕ, ◌<◌, List, length, Ok, Err, IsErr, Result, sym, ap, ◌∙◌, subst}
 use Rattle.names.specs.declared.name.Name.{Name}
 use Rattle.zone.specs.declared.refusals.Refusal.{Refusal}
 use Rattle.zone.specs.declared.rows.Interval.{Interval}
@@ -10,18 +10,14 @@ use Rattle.zone.specs.Refusals.{answered, refused, number, values, outcome}
 use Rattle.zone.specs.Rows.{at, Sound, window_rows}
 use Rattle.zonetext.specs.declared.places.Reader.{Reader}
 use Rattle.zonetext.specs.Laws.{IsTextOf, Says}
-use Rattle.zonetext.specs.Reading.{Zone, between, zone, zone_in, zone_read, state_of, reading, told}
+use Rattle.zonetext.specs.Reading.{between, zone, zone_in, zone_read, state_of, reading, told}
 use Rattle.zonetext.proofs.Back.{one_text}
 use Rattle.zonetext.proofs.Only.{only}
-
--- an answer is no refusal
-never : (k : ℕ) (vs : List ℕ) (z : Zone) → refused k vs ≡ answered z → ⊥
-never k vs z e = let q : ◌≡◌ {A = ℕ} 0 1 = cc in omega arith
 
 -- a text that is refused is no zone's
 pub refused_says : (r : Result Name Refusal) (t : List ℕ) (w : Window) → IsErr r → told (outcome r) w ≡ reading t → Says r t w
 refused_says (Ok n) t w i h = cc
-refused_says (Err e) t w i h = λ z is. never (number e) (values e) z (h ∙ (one_text t z).1 is)
+refused_says (Err e) t w i h = λ z is. let q : refused (number e) (values e) ≡ answered z = h ∙ (one_text t z).1 is in cc
 
 -- a reader of a whole text has a row
 pub read_some : (r : Reader) (t : List ℕ) → answered (zone_read (state_of r)) ≡ reading t → 0 < length r.rows.items

@@ -13,6 +13,7 @@ pub(crate) fn line_end(text: &[u8]) -> Option<usize>
 }
 
 // Where the first colon of the line stands, if it has one.
+#[tactic(auto, using(crate::proofs::Cuts::colon_is))]
 fn colon(line: &[u8]) -> Option<usize>
     ensures { MatchOption result (split line.now ≡ whole) (λ n. (n < length line.now) × (split line.now ≡ apart (take n line.now) (drop (n + 1) line.now))) }
 {
@@ -20,6 +21,7 @@ fn colon(line: &[u8]) -> Option<usize>
 }
 
 /// What the line says, if it has a colon.
+#[tactic(auto, unfolding(crate::specs::Lines::said))]
 pub(crate) fn parts<'a>(line: &'a [u8]) -> Option<Line<'a>>
     ensures { seen result ≡ said line.now }
 {

@@ -31,7 +31,7 @@ pub enum Place {
 }
 
 /// A reader: its place, and the name, the window's end and the rows that it has read. There is room for the row that it is inside of.
-// The name and the window's end stand beside the place, and not in it: they are kept from their line to the end of the text.
+// The name and the window's end stand beside the place: in the places, three of them would carry both from line to line.
 #[derive(Drop)]
 pub struct Reader<'a> {
     pub place: Place,

@@ -2,7 +2,7 @@
 ghost use Rattle.std.specs.Prelude.{◌≡◌, ◌<◌, ◌-ℤ◌, Some, MatchOption, FitsSigned};
 ghost use Rattle.std.specs.Int.{w64};
 ghost use Rattle.zonetext.specs.Lines.{seen};
-ghost use Rattle.zonetext.specs.Reading.{Takes, component, may_come, observed, row_of, state_of, step as stepped};
+ghost use Rattle.zonetext.specs.Reading.{Takes, component, inside, may_come, observed, part_with, row_of, state_of, step as stepped};
 
 use super::lines::Line;
 use super::places::{Part, Place, Reader};
@@ -40,7 +40,7 @@ fn observance_of(name: &[u8]) -> Option<Observance>
 
 // The row that these lines say, if its onset can be held.
 fn row_from(observance: Observance, start: Seconds, from: Offset, to: Offset) -> Option<Row>
-    ensures { MatchOption result (FitsSigned w64 (start.0 -ℤ from.0) → ⊥) (λ row. row ≡ row_of observance start from to) }
+    ensures { MatchOption result (¬ (FitsSigned w64 (start.0 -ℤ from.0))) (λ row. row ≡ row_of observance start from to) }
 {
     let onset = start.0.checked_sub(from.0 as i64)?;
     Some(Row {
@@ -51,13 +51,40 @@ fn row_from(observance: Observance, start: Seconds, from: Offset, to: Offset) ->
     })
 }
 
+// Whether the row's onset lies in the era, and before the window's end.
+fn is_inside(row: Row, until: Instant) -> bool
+    ensures { result ≡ inside until row }
+{
+    ERA.contains(Instant(row.onset)) && row.onset < until.0
+}
+
+impl Part {
+    // What has been read of the row with this property, if it comes next.
+    fn with(self, name: &[u8], value: &[u8]) -> Option<Part>
+        ensures { result ≡ part_with self name.now value.now }
+    {
+        match self {
+            Part::Empty if name == DTSTART => Some(Part::Started(start_of(value)?)),
+            Part::Started(start) if name == TZOFFSETFROM => Some(Part::Left(
+                start,
+                parse_offset(value)?,
+            )),
+            Part::Left(start, from) if name == TZOFFSETTO => Some(Part::Full(
+                start,
+                from,
+                parse_offset(value)?,
+            )),
+            _ => None,
+        }
+    }
+}
+
 impl<'a> Reader<'a> {
-    // Whether the row may come next: it lies in the era and before the window's end, and goes on from the last row.
+    // Whether the row may come next: it lies inside the window, and goes on from the last row.
     fn has_place_for(&self, row: Row) -> bool
         ensures { result ≡ may_come self.now.until self.now.rows.items row }
     {
-        ERA.contains(Instant(row.onset))
-            && row.onset < self.until.0
+        is_inside(row, self.until)
             && self
                 .rows
                 .last()
@@ -84,17 +111,9 @@ impl<'a> Reader<'a> {
             ),
             (Place::Between, Line::End(value)) if !self.rows.is_empty() && value == VTIMEZONE =>
                 Place::After,
-            (Place::Inside(observance, Part::Empty), Line::Property(name, value))
-                if name == DTSTART => Place::Inside(observance, Part::Started(start_of(value)?)),
-            (Place::Inside(observance, Part::Started(start)), Line::Property(name, value))
-                if name == TZOFFSETFROM => Place::Inside(
+            (Place::Inside(observance, part), Line::Property(name, value)) => Place::Inside(
                 observance,
-                Part::Left(start, parse_offset(value)?),
-            ),
-            (Place::Inside(observance, Part::Left(start, from)), Line::Property(name, value))
-                if name == TZOFFSETTO => Place::Inside(
-                observance,
-                Part::Full(start, from, parse_offset(value)?),
+                part.with(name, value)?,
             ),
             (Place::Inside(observance, Part::Full(start, from, to)), Line::End(value))
                 if value == component_of(observance) => {

@@ -9,6 +9,7 @@ use zone::intervals::ERA;
 use zone::rows::Instant;
 
 /// The local time that this text says.
+#[tactic(auto, using(crate::proofs::Dated::start_some), unfolding(crate::specs::Values::start_read))]
 pub(crate) fn start_of(text: &[u8]) -> Option<Seconds>
     ensures { result ≡ start_read text.now }
 {
@@ -23,6 +24,7 @@ fn end_at(at: Seconds) -> Option<Instant>
 }
 
 /// The end of a window that this text says, in UTC.
+#[tactic(auto, using(crate::proofs::Dated::until_utc, crate::proofs::Dated::until_local))]
 pub(crate) fn until_of(text: &[u8]) -> Option<Instant>
     ensures { result ≡ until_read text.now }
 {
