@@ -1,8 +1,8 @@
 // Known texts and what they say, both ways, and texts that say nothing.
-use calendar::dates::Stamp;
+use super::test_calendar::stamp;
 use fields::offsets::*;
 use fields::stamps::*;
-use fields::types::*;
+use fields::types::Offset;
 use std::test::Fail;
 
 /// Known offsets and their texts.
@@ -28,10 +28,8 @@ fn known_offsets(rt: HostRuntime) -> Result<(), Fail> {
     ];
     for (text, seconds) in known {
         assert_eq!(rt; parse_offset(text.as_bytes()), Some(Offset(seconds)));
-        let Some(printed) = print_offset(Offset(seconds)) else {
-            return Err(Fail::new("no text"));
-        };
-        assert!(rt; &printed.bytes[0..printed.len] == text.as_bytes());
+        let printed = print_offset(Offset(seconds)).ok_or("no text")?;
+        assert!(rt; printed.as_slice() == text.as_bytes());
     }
     Ok(())
 }
@@ -81,18 +79,6 @@ fn bad_offsets(rt: HostRuntime) {
     }
 }
 
-/// The stamp of a date and a time of day.
-fn stamp(date: (u16, u8, u8), time: (u8, u8, u8)) -> Stamp {
-    Stamp {
-        year: date.0,
-        month: date.1,
-        day: date.2,
-        hour: time.0,
-        minute: time.1,
-        second: time.2,
-    }
-}
-
 /// Known dates with times and their texts.
 #[test]
 fn known_stamps(rt: HostRuntime) -> Result<(), Fail> {
@@ -107,7 +93,7 @@ fn known_stamps(rt: HostRuntime) -> Result<(), Fail> {
     for (text, date) in known {
         assert_eq!(rt; parse_stamp(text.as_bytes()), Some(date));
         let printed = print_stamp(date).ok_or("no text")?;
-        assert!(rt; &printed[0..15] == text.as_bytes());
+        assert!(rt; printed.as_slice() == text.as_bytes());
     }
     Ok(())
 }

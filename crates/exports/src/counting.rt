@@ -18,6 +18,7 @@ fn count(text: &[u8], window: &mut Window) -> usize
 }
 
 /// Puts how many rows the text has, 0 where it is refused, and answers true; answers false and puts nothing where there is no memory for a window.
+// The answer is a bool and the count goes through a pointer, since C calls it so.
 #[unsafe(no_mangle)]
 pub extern "C" fn rofskenu_count_rows(heap: Global, text: &[u8], rows: &mut usize) -> bool
     ensures { rows.new ≡ (if result then rows_of (reading text.now) else rows.old) }

@@ -9,7 +9,9 @@ use Rattle.zone.specs.declared.rows.Interval.{Interval}
 use Rattle.zone.specs.declared.rows.Row.{Row}
 use Rattle.zone.specs.Intervals.{era, has_instant}
 use Rattle.zone.specs.Rows.{at, no_row, Offset, Joined, Small, Sound, window_rows}
-use Rattle.zonetext.specs.Reading.{inside, follows, may_come}
+use Rattle.zone.specs.Tables.{follows}
+use Rattle.zone.proofs.Testing.{decides_same}
+use Rattle.zonetext.specs.Reading.{inside, may_come}
 
 -- of rows that are read, up to the window's end u
 pub record Kept (u : ℤ) (rs : List Row) : Type 0 where
@@ -34,17 +36,11 @@ yes_lt a b h = grind (arith, ints)
 pub yes_le : (a b : ℤ) → a ≤ℤ b → le_z a b ≡ true
 yes_le a b h = grind (arith, ints)
 
-same_yes : (a b : ℤ) → (le_z a b && le_z b a) ≡ true → a ≡ b
-same_yes a b h = let p = and_parts (le_z a b) (le_z b a) h in let x = le_yes a b p.0 in let y = le_yes b a p.1 in omega (arith, ints)
-
-yes_same : (a b : ℤ) → a ≡ b → (le_z a b && le_z b a) ≡ true
-yes_same a b h = and_from (le_z a b) (le_z b a) (yes_le a b (omega (arith, ints))) (yes_le b a (omega (arith, ints)))
-
 follows_parts : (a b : Row) → follows a b ≡ true → (a.onset <ℤ b.onset) × (b.from ≡ a.to)
-follows_parts a b h = let p = and_parts (lt_z a.onset b.onset) (le_z b.from a.to && le_z a.to b.from) h in (lt_yes _ _ p.0, same_yes _ _ p.1)
+follows_parts a b h = let p = and_parts (lt_z a.onset b.onset) (le_z b.from a.to && le_z a.to b.from) h in (lt_yes _ _ p.0, (decides_same b.from a.to).0 p.1)
 
 follows_from : (a b : Row) → a.onset <ℤ b.onset → b.from ≡ a.to → follows a b ≡ true
-follows_from a b h e = and_from (lt_z a.onset b.onset) (le_z b.from a.to && le_z a.to b.from) (yes_lt _ _ h) (yes_same _ _ e)
+follows_from a b h e = and_from (lt_z a.onset b.onset) (le_z b.from a.to && le_z a.to b.from) (yes_lt _ _ h) ((decides_same b.from a.to).1 e)
 
 -- what holds of each row, and of one more
 more_places : (P : Row → Type 0) (rs : List Row) (row : Row) → ((k : ℕ) → k < length rs → P (at rs k)) → P row → (k : ℕ) → k < length (rs ++ row ∷ []) → P (at (rs ++ row ∷ []) k)

@@ -1,15 +1,16 @@
 -- Worked examples. Assumes nothing.
 use Rattle.std.specs.Prelude.{◌≡◌, ℕ, List, [], ◌∷◌, ◌++◌, ℤ, pos, Some, codes, Option}
+use Rattle.std.specs.Option.{option_map, option_and_then}
 use Rattle.fields.specs.Offsets.{parsed}
 use Rattle.zone.specs.declared.rows.Observance.TheVariants.{Standard, Daylight}
 use Rattle.names.specs.Names.{held}
 use Rattle.zonetext.specs.Laws.{ReadsAs}
 use Rattle.zonetext.specs.Reading.{Zone, between, zone, row_of, fails, reading}
-use Rattle.zonetext.specs.Values.{after, start_read}
+use Rattle.zonetext.specs.Values.{start_read}
 
 -- the onset that a DTSTART value and a TZOFFSETFROM value say together
 abbrev pub onset_said : List ℕ → List ℕ → Option ℤ
-onset_said start from = after (start_read start) (λ d. after (parsed from) (λ x. Some (row_of Daylight d x x).onset))
+onset_said start from = option_and_then (λ d. option_map (λ x. (row_of Daylight d x x).onset) (parsed from)) (start_read start)
 
 -- lines, each with its CR LF
 abbrev pub lines_text : List (List ℕ) → List ℕ

@@ -1,5 +1,5 @@
 -- A text as its lines, and a line as its parts. Assumes nothing.
-use Rattle.std.specs.Prelude.{ℕ, cond, ◌&&◌, List, [], ◌∷◌, ◌++◌, Some, None, codes, Option, ◌==◌}
+use Rattle.std.specs.Prelude.{ℕ, if◌then◌else◌, ◌&&◌, List, [], ◌∷◌, ◌++◌, Some, None, codes, Option, ◌==◌}
 use Rattle.std.specs.Str.{bytes_eq}
 use Rattle.zonetext.specs.declared.lines.Line.{Line}
 use Rattle.zonetext.specs.declared.lines.Line.TheVariants.{Begin, End, Property}
@@ -23,7 +23,7 @@ glue c (line l ls) = line (c ∷ l) ls
 unfoldable pub cut : List ℕ → Lines
 cut [] = rest []
 cut (c ∷ []) = rest (c ∷ [])
-cut (c ∷ d ∷ cs) = cond (c == 13 && d == 10) (line [] (cut cs)) (glue c (cut (d ∷ cs)))
+cut (c ∷ d ∷ cs) = if c == 13 && d == 10 then line [] (cut cs) else glue c (cut (d ∷ cs))
 
 -- a line without a colon, or the two parts about its first colon
 pub data Split : Type 0 where
@@ -38,7 +38,7 @@ grow c (apart n v) = apart (c ∷ n) v
 -- a line parted at its first colon
 unfoldable pub split : List ℕ → Split
 split [] = whole
-split (c ∷ cs) = cond (c == 58) (apart [] cs) (grow c (split cs))
+split (c ∷ cs) = if c == 58 then apart [] cs else grow c (split cs)
 
 -- what a line says: it opens or closes a component, gives a property its value, or has no colon
 pub data Said : Type 0 where
@@ -49,7 +49,7 @@ pub data Said : Type 0 where
 
 -- what a line with this name and this value says
 abbrev pub named : List ℕ → List ℕ → Said
-named n v = cond (bytes_eq n (codes "BEGIN")) (begin v) (cond (bytes_eq n (codes "END")) (end v) (property n v))
+named n v = if bytes_eq n (codes "BEGIN") then begin v else (if bytes_eq n (codes "END") then end v else property n v)
 
 -- what the parts of a line say
 abbrev pub said_by : Split → Said

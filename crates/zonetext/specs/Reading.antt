@@ -1,5 +1,6 @@
 -- How a text is read, line by line. Assumes nothing.
-use Rattle.std.specs.Prelude.{◌≡◌, ℕ, ◌+◌, ◌-◌, ◌<◌, ◌≤◌, Bool, true, false, cond, ◌&&◌, ◌||◌, List, [], ◌∷◌, ◌++◌, length, take, ℤ, pos, ◌-ℤ◌, Some, None, Ok, Err, vec_items, codes, MatchBool, Option, Result, ◌==◌, int_le, int_lt, nat_lt}
+use Rattle.std.specs.Prelude.{◌≡◌, ℕ, ◌+◌, ◌-◌, Bool, true, false, if◌then◌else◌, ◌&&◌, ◌||◌, List, [], ◌∷◌, ◌++◌, length, ℤ, pos, ◌-ℤ◌, Some, None, Ok, Err, codes, ⊤, MatchOption, Option, Result, ◌==◌, int_lt, nat_lt}
+use Rattle.std.specs.Option.{option_map}
 use Rattle.std.specs.Str.{bytes_eq}
 use Rattle.calendar.specs.declared.dates.Seconds.{Seconds}
 use Rattle.fields.specs.declared.types.Offset.{Offset}
@@ -14,15 +15,16 @@ use Rattle.zone.specs.declared.rows.Observance.TheVariants.{Standard, Daylight}
 use Rattle.zone.specs.declared.rows.Row.{Row}
 use Rattle.zone.specs.Intervals.{era, has_instant}
 use Rattle.names.specs.Names.{is_text, held}
-use Rattle.zone.specs.Refusals.{Outcome, answered, refused, number, values}
+use Rattle.zone.specs.Refusals.{Outcome, answered, refused}
 use Rattle.zone.specs.Rows.{at, window_rows}
+use Rattle.zone.specs.Tables.{follows}
 use Rattle.zonetext.specs.declared.places.Part.{Part}
 use Rattle.zonetext.specs.declared.places.Part.TheVariants.{Empty, Started, Left, Full}
 use Rattle.zonetext.specs.declared.places.Place.{Place}
-use Rattle.zonetext.specs.declared.places.Place.TheVariants.{Before, Head, Between, Inside, After}
+use Rattle.zonetext.specs.declared.places.Place.TheVariants.{Before, Head, Named, Between, Inside, After}
 use Rattle.zonetext.specs.declared.places.Reader.{Reader}
 use Rattle.zonetext.specs.Lines.{Lines, rest, line, cut, Said, begin, end, property, odd, said}
-use Rattle.zonetext.specs.Values.{after, start_read, until_read}
+use Rattle.zonetext.specs.Values.{start_read, until_read}
 
 -- the component of a row, by its observance
 abbrev pub component : Observance → List ℕ
@@ -32,10 +34,6 @@ component Daylight = codes "DAYLIGHT"
 -- a row by its lines: its onset is its local time less the offset before it
 abbrev pub row_of : Observance → Seconds → Offset → Offset → Row
 row_of o s x y = record { onset = s.0 -ℤ x.0; from = x.0; to = y.0; observance = o }
-
--- the onset is later than that of the row before, and the offset before it is that row's
-abbrev pub follows : Row → Row → Bool
-follows before row = int_lt before.onset row.onset && (int_le row.from before.to && int_le before.to row.from)
 
 -- the onset lies in the era, and before the window's end
 abbrev pub inside : Instant → Row → Bool
@@ -62,51 +60,66 @@ start = state Before [] (record { 0 = pos 0 }) []
 
 -- the state of a reader of the code
 abbrev pub state_of : Reader → State
-state_of r = state r.place r.name.now r.until (take r.count r.rows)
+state_of r = state r.place r.name.now r.until r.rows.items
 
 -- a line before the text
 abbrev pub in_front : State → Said → Option State
-in_front s (begin v) = cond (bytes_eq v (codes "VTIMEZONE")) (Some (state (Head false) s.name s.until s.rows)) None
+in_front s (begin v) = if bytes_eq v (codes "VTIMEZONE") then Some (state Head s.name s.until s.rows) else None
 in_front s (end v) = None
 in_front s (property p v) = None
 in_front s odd = None
 
--- a line of the head: the name, and then the window's end
-abbrev pub in_head : Bool → State → Said → Option State
-in_head b s (begin v) = None
-in_head b s (end v) = None
-in_head false s (property p v) = cond (bytes_eq p (codes "TZID") && is_text v) (Some (state (Head true) v s.until s.rows)) None
-in_head true s (property p v) = cond (bytes_eq p (codes "TZUNTIL")) (after (until_read v) (λ u. Some (state Between s.name u s.rows))) None
-in_head b s odd = None
+-- a line of the head, before the name
+abbrev pub in_head : State → Said → Option State
+in_head s (begin v) = None
+in_head s (end v) = None
+in_head s (property p v) = if bytes_eq p (codes "TZID") && is_text v then Some (state Named v s.until s.rows) else None
+in_head s odd = None
+
+-- a line of the head, after the name: the window's end
+abbrev pub in_named : State → Said → Option State
+in_named s (begin v) = None
+in_named s (end v) = None
+in_named s (property p v) = if bytes_eq p (codes "TZUNTIL") then option_map (λ u. state Between s.name u s.rows) (until_read v) else None
+in_named s odd = None
+
+-- the observance of the row that a component is
+abbrev pub observed : List ℕ → Option Observance
+observed v = if bytes_eq v (codes "STANDARD") then Some Standard else (if bytes_eq v (codes "DAYLIGHT") then Some Daylight else None)
 
 -- a line between rows: it opens a row, or closes the text
 abbrev pub in_between : State → Said → Option State
-in_between s (begin v) = cond (nat_lt (length s.rows) window_rows) (cond (bytes_eq v (codes "STANDARD")) (Some (state (Inside Standard Empty) s.name s.until s.rows)) (cond (bytes_eq v (codes "DAYLIGHT")) (Some (state (Inside Daylight Empty) s.name s.until s.rows)) None)) None
-in_between s (end v) = cond (nat_lt 0 (length s.rows) && bytes_eq v (codes "VTIMEZONE")) (Some (state After s.name s.until s.rows)) None
+in_between s (begin v) = if nat_lt (length s.rows) window_rows then option_map (λ o. state (Inside o Empty) s.name s.until s.rows) (observed v) else None
+in_between s (end v) = if nat_lt 0 (length s.rows) && bytes_eq v (codes "VTIMEZONE") then Some (state After s.name s.until s.rows) else None
 in_between s (property p v) = None
 in_between s odd = None
 
 -- the row is read, if it may come next
 abbrev pub closed : State → Row → Option State
-closed s row = cond (may_come s.until s.rows row) (Some (state Between s.name s.until (s.rows ++ row ∷ []))) None
+closed s row = if may_come s.until s.rows row then Some (state Between s.name s.until (s.rows ++ row ∷ [])) else None
 
--- a line inside a row
+-- what has been read of a row with one more property: its onset in local time, then the two offsets
+abbrev pub part_with : Part → List ℕ → List ℕ → Option Part
+part_with Empty p v = if bytes_eq p (codes "DTSTART") then option_map Started (start_read v) else None
+part_with (Started d) p v = if bytes_eq p (codes "TZOFFSETFROM") then option_map (Left d) (parsed v) else None
+part_with (Left d x) p v = if bytes_eq p (codes "TZOFFSETTO") then option_map (Full d x) (parsed v) else None
+part_with (Full d x y) p v = None
+
+-- a line inside a row: a property of it, or its end
 abbrev pub in_row : Observance → Part → State → Said → Option State
 in_row o q s (begin v) = None
+in_row o q s (property p v) = option_map (λ r. state (Inside o r) s.name s.until s.rows) (part_with q p v)
 in_row o q s odd = None
-in_row o Empty s (property p v) = cond (bytes_eq p (codes "DTSTART")) (after (start_read v) (λ d. Some (state (Inside o (Started d)) s.name s.until s.rows))) None
-in_row o (Started d) s (property p v) = cond (bytes_eq p (codes "TZOFFSETFROM")) (after (parsed v) (λ x. Some (state (Inside o (Left d x)) s.name s.until s.rows))) None
-in_row o (Left d x) s (property p v) = cond (bytes_eq p (codes "TZOFFSETTO")) (after (parsed v) (λ y. Some (state (Inside o (Full d x y)) s.name s.until s.rows))) None
-in_row o (Full d x y) s (property p v) = None
 in_row o Empty s (end v) = None
 in_row o (Started d) s (end v) = None
 in_row o (Left d x) s (end v) = None
-in_row o (Full d x y) s (end v) = cond (bytes_eq v (component o)) (closed s (row_of o d x y)) None
+in_row o (Full d x y) s (end v) = if bytes_eq v (component o) then closed s (row_of o d x y) else None
 
 -- a line at a place
 abbrev pub move : Place → State → Said → Option State
 move Before s l = in_front s l
-move (Head b) s l = in_head b s l
+move Head s l = in_head s l
+move Named s l = in_named s l
 move Between s l = in_between s l
 move (Inside o q) s l = in_row o q s l
 move After s l = None
@@ -115,18 +128,9 @@ move After s l = None
 abbrev pub step : State → Said → Option State
 step s l = move s.place s l
 
--- there is room for the rows: for one more inside a row
-abbrev pub Room : Place → ℕ → Type 0
-Room Before n = n ≤ window_rows
-Room (Head b) n = n ≤ window_rows
-Room Between n = n ≤ window_rows
-Room (Inside o q) n = n < window_rows
-Room After n = n ≤ window_rows
-
 -- what a step answers, and the reader after it
-pub record Takes (to : Option State) (r : Bool) (reader : Reader) : Type 0 where
-  pub room : Room reader.place reader.count
-  pub moves : MatchBool r (to ≡ Some (state_of reader)) (to ≡ None)
+abbrev pub Takes : Option State → Option ⊤ → Reader → Type 0
+Takes to r reader = MatchOption r (to ≡ None) (λ _. to ≡ Some (state_of reader))
 
 -- a name and a window, by what they hold
 pub record Zone : Type 0 where
@@ -140,7 +144,7 @@ zone n i rs = record { name = n; interval = i; rows = rs }
 
 -- what a name and a window of the code hold
 abbrev pub zone_in : Name → Window → Zone
-zone_in n w = zone n.bytes w.interval (vec_items w.rows)
+zone_in n w = zone n.bytes w.interval w.rows.items
 
 -- an interval by its ends
 abbrev pub between : ℤ → ℤ → Interval
@@ -157,15 +161,16 @@ fails o = refused 15 (o ∷ [])
 -- the reader stands after the text
 abbrev pub is_after : Place → Bool
 is_after Before = false
-is_after (Head b) = false
+is_after Head = false
+is_after Named = false
 is_after Between = false
 is_after (Inside o q) = false
 is_after After = true
 
 -- what is left, from the byte o on, has no CR LF: it must be nothing, after the text; bytes after the text fail where they begin, and a text that ends early fails at its length
 abbrev pub ending : State → ℕ → List ℕ → Outcome Zone
-ending s o [] = cond (is_after s.place) (answered (zone_read s)) (fails o)
-ending s o (c ∷ t) = fails (cond (is_after s.place) o (o + length (c ∷ t)))
+ending s o [] = if is_after s.place then answered (zone_read s) else fails o
+ending s o (c ∷ t) = fails (if is_after s.place then o else (o + length (c ∷ t)))
 
 -- goes on with the state after a line, or fails at the line
 abbrev pub or_fail : Option State → ℕ → (State → Outcome Zone) → Outcome Zone
@@ -181,10 +186,10 @@ run s o (line l ls) = or_fail (step s (said l)) o (λ s'. run s' (o + (length l 
 unfoldable pub reading : List ℕ → Outcome Zone
 reading t = run start 0 (cut t)
 
--- what a scan of the code comes to
-abbrev pub scanned : Result Reader Refusal → Outcome Zone
+-- what a scan of the code comes to: what is read, or the byte at which the text fails
+abbrev pub scanned : Result Reader ℕ → Outcome Zone
 scanned (Ok r) = answered (zone_read (state_of r))
-scanned (Err e) = refused (number e) (values e)
+scanned (Err o) = fails o
 
 -- what a call that answers a name and fills a window comes to
 abbrev pub told : Outcome Name → Window → Outcome Zone

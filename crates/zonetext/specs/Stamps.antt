@@ -1,12 +1,12 @@
 -- The stamp at some seconds, by counting years and months off. Assumes nothing.
-use Rattle.std.specs.Prelude.{ℕ, zero, suc, ◌+◌, ◌-◌, ◌*◌, ◌/◌, ◌%◌, cond, ℤ, pos, ◌+ℤ◌, nat_lt, unsigned_abs}
+use Rattle.std.specs.Prelude.{ℕ, zero, suc, ◌+◌, ◌-◌, ◌*◌, ◌/◌, ◌%◌, if◌then◌else◌, ℤ, pos, ◌+ℤ◌, nat_lt, unsigned_abs}
 use Rattle.calendar.specs.declared.dates.Stamp.{Stamp}
 use Rattle.calendar.specs.Calendar.{year_days, month_days}
 
 -- takes f k, f (k + 1) and so on away from n, while n is not below them and at most m times: where that stops, and what is left
 abbrev pub count_off : (ℕ → ℕ) → ℕ → ℕ → ℕ → ℕ × ℕ
 count_off f zero k n = (k, n)
-count_off f (suc m) k n = cond (nat_lt n (f k)) (k, n) (count_off f m (k + 1) (n - f k))
+count_off f (suc m) k n = if nat_lt n (f k) then (k, n) else count_off f m (k + 1) (n - f k)
 
 -- the year of a day, counted from the start of 1899, and the day in that year, counted from 0
 abbrev pub year_of : ℕ → ℕ × ℕ
