@@ -3,7 +3,7 @@ use calendar::dates::{AnotherYear, InvalidStamp, Seconds, Stamp};
 use std::test::Fail;
 
 /// The stamp of a date and a time of day.
-fn stamp(date: (u16, u8, u8), time: (u8, u8, u8)) -> Stamp {
+pub(crate) fn stamp(date: (u16, u8, u8), time: (u8, u8, u8)) -> Stamp {
     Stamp {
         year: date.0,
         month: date.1,
@@ -86,9 +86,11 @@ fn printed(rt: HostRuntime) -> Result<(), Fail> {
         ("0000-00-00T00:00:00", stamp((0, 0, 0), (0, 0, 0))),
     ];
     for (text, day) in known {
-        assert!(rt; format!(in rt.alloc(); "{day}")? == text);
+        assert!(rt; format!(in rt.alloc(); "{day}")?.as_str() == text);
     }
-    assert!(rt; format!(in rt.alloc(); "{AnotherYear}")? == "another year");
-    assert!(rt; format!(in rt.alloc(); "{InvalidStamp}")? == "no such date and time of day");
+    assert!(rt; format!(in rt.alloc(); "{AnotherYear}")?.as_str() == "another year");
+    assert!(rt;
+        format!(in rt.alloc(); "{InvalidStamp}")?.as_str() == "no such date and time of day"
+    );
     Ok(())
 }

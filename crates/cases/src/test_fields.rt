@@ -1,8 +1,8 @@
 // Known texts and what they say, both ways, and texts that say nothing.
-use calendar::dates::Stamp;
+use super::test_calendar::stamp;
 use fields::offsets::*;
 use fields::stamps::*;
-use fields::types::*;
+use fields::types::Offset;
 use std::test::Fail;
 
 /// Known offsets and their texts.
@@ -76,18 +76,6 @@ fn bad_offsets(rt: HostRuntime) {
     ];
     for text in bad {
         assert_eq!(rt; parse_offset(text.as_bytes()), None);
-    }
-}
-
-/// The stamp of a date and a time of day.
-fn stamp(date: (u16, u8, u8), time: (u8, u8, u8)) -> Stamp {
-    Stamp {
-        year: date.0,
-        month: date.1,
-        day: date.2,
-        hour: time.0,
-        minute: time.1,
-        second: time.2,
     }
 }
 

@@ -5,14 +5,10 @@ use std::test::Fail;
 
 // Passes if the input begins with this text, and these bytes follow.
 fn begins(rt: &impl Abort, input: &[u8], text: &[u8], more: &[u8]) -> Result<(), Fail> {
-    match first_text(input) {
-        Some(part) => {
-            assert!(rt; part.text == text);
-            assert!(rt; part.more == more);
-            Ok(())
-        }
-        None => Err(Fail::new("not understood")),
-    }
+    let part = first_text(input).ok_or("not understood")?;
+    assert!(rt; part.text == text);
+    assert!(rt; part.more == more);
+    Ok(())
 }
 
 #[test]

@@ -7,6 +7,7 @@ pub fn fields_stand()
 {}
 
 /// The worked examples hold.
+#[tactic(auto, unfolding(crate::specs::Offsets::printed, crate::specs::Offsets::parsed, crate::specs::Stamps::stamp_text, crate::specs::Stamps::stamp_read))]
 pub fn worked()
     ensures { Worked }
 {}

@@ -1,5 +1,5 @@
 // The text of a row, and its length.
-ghost use Rattle.std.specs.Prelude.{◌≡◌, ◌≤◌, length};
+ghost use Rattle.std.specs.Prelude.{◌≡◌, length};
 ghost use Rattle.zonetext.specs.Writing.{Writable, row_text};
 ghost use Rattle.zonewriter.specs.Puts.{HasRoom, Puts};
 
@@ -32,11 +32,9 @@ impl Writer<'_> {
 }
 
 /// The length of a row's text.
-#[tactic(auto, using(crate::proofs::Rowing::row_lengths))]
 pub(crate) fn row_len(row: Row) -> usize
     requires { Writable row }
-    ensures is { result ≡ length (row_text row) }
-    ensures few { result ≤ 97 }
+    ensures { result ≡ length (row_text row) }
 {
     ROW_BYTES + offset_text(row.from).len() + offset_text(row.to).len()
 }
