@@ -85,7 +85,8 @@ impl<P: Provider> Provider for Line<P> {
     /// Fetches a page's cut into the lent window.
     fn fetch(&mut self, request: Request, place: &mut Window) -> Result<Reply, Refusal> {
         check(&request, self.span())?;
-        self.send(request, place)
+        // A refusal from below passes up by `?`, with the edition that it names.
+        Ok(self.send(request, place)?)
     }
 }
 
@@ -96,6 +97,6 @@ impl<P: Publishing> Publishing for Line<P> {
 
     /// Publishes a table over the era for the name, and answers the number of the new edition.
     fn publish(&mut self, name: Name, table: &Table) -> Result<Edition, Refusal> {
-        self.below.publish(name, table)
+        Ok(self.below.publish(name, table)?)
     }
 }

@@ -16,10 +16,17 @@ returns-in_err-check g c =
     let p = err_from_is_err_and c.from_residual.result c.from_residual.ensures.1 in
     rw (p.1, p.2) (record { after = when_no _ _ (passes q span) (passes_no q span (number e) (values e) h) refl; told = λ o. refused_fetch _ _ q c.args.place.now e o h })
 
+pub returns-in_err-send-clause-told : goal.returns-in_err-send-clause-told
+returns-in_err-send-clause-told g c =
+    let q = c.args.request in
+    let h = rw c.span.ensures at c.in_ok-check.ensures in
+    let passed = (checked_answer q (g.P.Provider.span c.args.self.now.below) (answered tt) tt (sym h)).0 in
+    let p = err_from_is_err_and c.from_residual-in_err-send.result c.from_residual-in_err-send.ensures.1 in
+    rw (p.1, p.2) (λ o. lined_brought g.P.Provider _ _ c.args.self.now.below c.send.new.self.below q c.args.place.now c.send.new.place _ passed o c.send.ensures.sent.below (c.in_err-send.ensures.brought o))
+
 pub returns-clause-told : goal.returns-clause-told
 returns-clause-told g c =
     let q = c.args.request in
-    let span = g.P.Provider.span c.args.self.now.below in
     let h = rw c.span.ensures at c.in_ok-check.ensures in
-    let passed = (checked_answer q span (answered tt) tt (sym h)).0 in
-    λ o. lined_brought g.P.Provider _ _ c.args.self.now.below c.send.new.self.below q c.args.place.now c.send.new.place _ passed o c.send.ensures.sent.below (c.send.ensures.brought o)
+    let passed = (checked_answer q (g.P.Provider.span c.args.self.now.below) (answered tt) tt (sym h)).0 in
+    λ o. lined_brought g.P.Provider _ _ c.args.self.now.below c.send.new.self.below q c.args.place.now c.send.new.place _ passed o c.send.ensures.sent.below (c.in_ok-send.ensures.brought o)
