@@ -48,6 +48,13 @@ impl<P: Provider> Truncation<P> {
         };
         Truncation { below, span }
     }
+
+    // The checks that every fetch begins with. A function of its own, so that a contract tells over which span they are.
+    fn check_request(&self, request: &Request) -> Result<(), Refusal>
+        ensures { outcome result ≡ checked request.now self.now.span (answered tt) }
+    {
+        check(request, self.span)
+    }
 }
 
 impl<P: Provider> Provider for Truncation<P> {
@@ -72,7 +79,7 @@ impl<P: Provider> Provider for Truncation<P> {
 
     /// Fetches a page's cut into the lent window.
     fn fetch(&mut self, request: Request, place: &mut Window) -> Result<Reply, Refusal> {
-        check(&request, self.span)?;
+        self.check_request(&request)?;
         // A refusal from below passes up by `?`, with the edition that it names.
         Ok(self.below.fetch(request, place)?)
     }

@@ -7,12 +7,12 @@ use Rattle.provider.proofs.Layers.{passes_no, passes_yes, refused_fetch, when_no
 use Rattle.truncation.proofs.Fetches.{truncated_fetched}
 use Rattle.truncation.proofs.truncations.TruncationProvider.fetch.Goals as goal
 
-pub returns-in_err-check : goal.returns-in_err-check
-returns-in_err-check g c =
+pub returns-in_err-check_request : goal.returns-in_err-check_request
+returns-in_err-check_request g c =
     let q = c.args.request in
     let s = c.args.self.now in
-    let e = c.in_err-check.field-0.0 in
-    let h = c.in_err-check.ensures in
+    let e = c.in_err-check_request.field-0.0 in
+    let h = c.in_err-check_request.ensures in
     let p = err_from_is_err_and c.from_residual.result c.from_residual.ensures.1 in
     rw (p.1, p.2) (record { after = when_no _ _ (passes q s.span) (passes_no q s.span (number e) (values e) h) refl; told = λ o. refused_fetch _ _ q c.args.place.now e o h })
 
@@ -20,7 +20,7 @@ pub returns-in_err-fetch : goal.returns-in_err-fetch
 returns-in_err-fetch g c =
     let q = c.args.request in
     let s = c.args.self.now in
-    let passed = (checked_answer q s.span (answered tt) tt (sym c.in_ok-check.ensures)).0 in
+    let passed = (checked_answer q s.span (answered tt) tt (sym c.in_ok-check_request.ensures)).0 in
     let p = err_from_is_err_and c.from_residual-in_err-fetch.result c.from_residual-in_err-fetch.ensures.1 in
     rw (p.1, p.2) (record {
       after = when_yes _ _ (passes q s.span) (passes_yes q s.span passed) (c.fetch.ensures.after, refl);
@@ -31,5 +31,5 @@ pub returns-clause-told : goal.returns-clause-told
 returns-clause-told g c =
     let q = c.args.request in
     let s = c.args.self.now in
-    let passed = (checked_answer q s.span (answered tt) tt (sym c.in_ok-check.ensures)).0 in
+    let passed = (checked_answer q s.span (answered tt) tt (sym c.in_ok-check_request.ensures)).0 in
     λ o. truncated_fetched _ s.span (g.met.P.Provider.sound s.below o.0) o.1 passed (c.in_ok-fetch.ensures.told o.0)
