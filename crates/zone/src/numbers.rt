@@ -1,6 +1,6 @@
 // The number of a refusal, and the text of it.
-ghost use Rattle.std.specs.Prelude.{◌≡◌};
-ghost use Rattle.zone.specs.Refusals.{number};
+ghost use Rattle.std.specs.Prelude.{◌≡◌, Some};
+ghost use Rattle.zone.specs.Refusals.{number, refusal_text};
 
 use super::refusals::Refusal;
 use std::fmt;
@@ -33,6 +33,8 @@ impl From<Refusal> for u8 {
 
 // As `refused 4`, `refused 5 edition 7` or `refused 15 12`.
 impl fmt::Display for Refusal {
+    ghost output = { λ refusal. Some (refusal_text refusal) };
+
     fn fmt<W: fmt::Write>(&self, f: &mut fmt::Formatter<W>) -> fmt::Result {
         let number = u8::from(*self);
         match self {
