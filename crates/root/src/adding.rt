@@ -1,11 +1,11 @@
 // Publications put into a root's log.
-ghost use Rattle.std.specs.Prelude.{◌≡◌, ◌+◌, ◌<◌, ◌≤◌, ◌&&◌, [], ◌∷◌, ◌++◌, length, if◌then◌else◌, vec_len, vec_capacity, nat_lt};
+ghost use Rattle.std.specs.Prelude.{◌≡◌, ◌+◌, ◌<◌, ◌≤◌, ◌&&◌, [], ◌∷◌, ◌++◌, length, vec_len, vec_capacity, nat_lt};
 ghost use Rattle.provider.specs.Meaning.{last_edition};
 ghost use Rattle.root.specs.Logs.{tag_for};
 ghost use Rattle.root.specs.Roots.{Added, has_room, log_of};
 
 use super::entries::Entry;
-use super::looking::latest_place;
+use super::looking::latest_of;
 use super::roots::Root;
 use names::name::Name;
 use provider::requests::{Edition, Tag};
@@ -37,13 +37,6 @@ fn keep(entry: Entry, entries: &mut Vec<Entry>)
     entries.push_reserved(entry);
 }
 
-// The tag before where the rows are the same, else the publication's number.
-fn tag_of(same: bool, before: Tag, number: Tag) -> Tag
-    ensures { result ≡ (if same then before else number) }
-{
-    if same { before } else { number }
-}
-
 impl Root {
     // Whether an entry, so many rows and an edition's number are unused.
     pub(crate) fn takes(&self, rows: usize) -> bool
@@ -61,12 +54,9 @@ impl Root {
         ensures { result ≡ tag_for (log_of self.now) name.now rows.now }
     {
         let number = self.entries.len() as u16 + 1;
-        match latest_place(self.entries.as_slice(), name) {
-            None => number,
-            Some(i) => {
-                let same = same_rows(self.rows_of(i), rows);
-                tag_of(same, self.entries[i].tag, number)
-            }
+        match latest_of(&self.entries, name) {
+            Some(entry) if same_rows(self.rows_of(entry), rows) => entry.tag,
+            _ => number,
         }
     }
 

@@ -6,10 +6,10 @@ ghost use Rattle.root.specs.Logs.{pages};
 ghost use Rattle.root.specs.Order.{InOrder};
 ghost use Rattle.root.specs.Roots.{log_of};
 
-use super::looking::latest_place;
+use super::looking::latest_of;
 use super::roots::Root;
 use provider::answers::answer_rows;
-use provider::requests::{Reply, Request};
+use provider::requests::{Reply, Request, Version};
 use zone::intervals::ERA;
 use zone::refusals::Refusal;
 use zone::windows::Window;
@@ -21,12 +21,12 @@ impl Root {
         ensures leaves { Leaves result request.interval place.old place.new }
     {
         let edition = self.entries.len() as u16;
-        match latest_place(self.entries.as_slice(), &request.name) {
-            None => Err(Refusal::NoPage { edition }),
-            Some(i) => {
-                let tag = self.entries[i].tag;
-                answer_rows(ERA, self.rows_of(i), edition, tag, request, place)
-            }
-        }
+        let entry =
+            latest_of(&self.entries, &request.name).ok_or(Refusal::NoPage { edition })?;
+        let version = Version {
+            edition,
+            tag: entry.tag,
+        };
+        answer_rows(ERA, self.rows_of(entry), version, request, place)
     }
 }
