@@ -20,9 +20,8 @@ impl Root {
         ensures told { InOrder (log_of self.now) → lies_within request.interval era ≡ true → judged result place.new ≡ edition_answer (vec_len self.now.entries) request (pages (log_of self.now) (vec_len self.now.entries) request.name) }
         ensures leaves { Leaves result request.interval place.old place.new }
     {
-        let edition = self.entries.len() as u16;
-        let entry =
-            latest_of(&self.entries, &request.name).ok_or(Refusal::NoPage { edition })?;
+        let edition = self.count();
+        let entry = latest_of(&self.entries, &request.name).ok_or(Refusal::NoPage { edition })?;
         let version = Version {
             edition,
             tag: entry.tag,

@@ -1,5 +1,5 @@
 // The latest entry of a name, and the rows of an entry.
-ghost use Rattle.std.specs.Prelude.{◌≡◌, List, Contains, IfSome};
+ghost use Rattle.std.specs.Prelude.{◌≡◌, List, Contains, IfSome, vec_len};
 ghost use Rattle.std.specs.Option.{option_map};
 ghost use Rattle.zone.specs.declared.rows.Row.{Row};
 ghost use Rattle.root.specs.Logs.{latest, log, publication};
@@ -7,6 +7,7 @@ ghost use Rattle.root.specs.Logs.{latest, log, publication};
 use super::entries::Entry;
 use super::roots::Root;
 use names::name::Name;
+use provider::requests::Edition;
 use zone::rows::Row;
 
 // The latest entry of the name.
@@ -24,6 +25,13 @@ pub(crate) fn latest_of<'a>(entries: &'a [Entry], name: &Name) -> Option<&'a Ent
 }
 
 impl Root {
+    // The number of the latest edition, 0 where there is none.
+    pub(crate) fn count(&self) -> Edition
+        ensures { result ≡ vec_len self.now.entries }
+    {
+        self.entries.len() as u16
+    }
+
     // The rows of an entry of the log.
     pub(crate) fn rows_of(&self, entry: &Entry) -> &[Row]
         requires { Contains self.now.entries.items entry.now }

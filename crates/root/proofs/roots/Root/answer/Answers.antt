@@ -16,7 +16,7 @@ returns-clause-told c =
     let e = c.in_ok-entry.entry in
     let found : c.latest_of.result ≡ Some e = c.ok_or.ensures.ok_part ∙ ap result_ok c.in_ok-entry.was in
     let held : latest q.name (log_of s) ≡ Some (publication s.rows.items e.now) =
-        ap (λ es. latest q.name (log es s.rows.items)) (sym c.deref.ensures.value) ∙ (c.latest_of.ensures.latest s.rows.items ∙ ap (option_map (λ (x : Bor Entry). publication s.rows.items x.now)) found) in
+    ap (λ es. latest q.name (log es s.rows.items)) (sym c.deref.ensures.value) ∙ (c.latest_of.ensures.latest s.rows.items ∙ ap (option_map (λ (x : Bor Entry). publication s.rows.items x.now)) found) in
     λ o w.
-      let sound = subst (λ rows. Sound table_rows era rows) (sym c.rows_of.ensures) (table_held (log_of s) q.name (publication s.rows.items e.now) o held) in
-      c.answer_rows.ensures.table sound ∙ answers_some s q c.len-edition.result (publication s.rows.items e.now) e.now.tag c.rows_of.result.now c.len-edition.ensures held w refl c.rows_of.ensures
+    let sound = subst (λ rows. Sound table_rows era rows) (sym c.rows_of.ensures) (table_held (log_of s) q.name (publication s.rows.items e.now) o held) in
+    c.answer_rows.ensures.table sound ∙ answers_some s q c.count-edition.result (publication s.rows.items e.now) e.now.tag c.rows_of.result.now c.count-edition.ensures held w refl c.rows_of.ensures
