@@ -1,8 +1,6 @@
 -- What a publication brings. Assumes nothing.
-use Rattle.std.proofs.Common.{◌≡◌, ℕ, ◌+◌, ◌<◌, Bool, true, ◌&&◌, ltb, ◌⊎◌, List, [], ◌∷◌, ◌++◌, length, get_or, vec_items, vec_len, MatchBool, sym, refl, ap, ◌∙◌, subst, inl, inr, arith}
-use Rattle.std.proofs.lemmas.List.{length_push, length-append, get_or_push, get_or_append_left}
+use Rattle.std.proofs.Common.{◌≡◌, ℕ, ◌+◌, Bool, true, ◌&&◌, ltb, length, vec_items, vec_len, MatchBool, sym, refl, ap, ◌∙◌, subst, arith}
 use Rattle.names.specs.declared.name.Name.{Name}
-use Rattle.zone.specs.declared.rows.Row.{Row}
 use Rattle.zone.specs.declared.windows.Table.{Table}
 use Rattle.zone.specs.Intervals.{era}
 use Rattle.names.specs.Names.{is_name}
@@ -12,12 +10,11 @@ use Rattle.zone.specs.Tables.{is_era_table}
 use Rattle.cutting.proofs.Kept.{cut_whole}
 use Rattle.provider.specs.Meaning.{Meaning, last_edition}
 use Rattle.provider.specs.Publishing.{published, Next}
-use Rattle.root.specs.declared.entries.Entry.{Entry}
 use Rattle.root.specs.declared.roots.Root.{Root}
-use Rattle.root.specs.Logs.{no_entry, page, pages, tag_for, add}
+use Rattle.root.specs.Logs.{page, pages, tag_for, add}
 use Rattle.root.specs.Roots.{log_of, has_room, accepts, Added}
-use Rattle.root.specs.Grown.{pages_kept, pages_own, pages_others}
-use Rattle.root.proofs.Views.{log_count, Inside}
+use Rattle.root.proofs.Growing.{pages_kept, pages_own, pages_others}
+use Rattle.root.proofs.Views.{log_count}
 
 -- what a root means
 abbrev pub meant : Root → Meaning

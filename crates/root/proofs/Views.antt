@@ -16,7 +16,7 @@ use Rattle.root.specs.declared.roots.Root.{Root}
 use Rattle.root.specs.Logs.{Publication, publication, log, no_entry, latest, page, pages, tag_after, tag_for, add}
 use Rattle.root.specs.Order.{InOrder}
 use Rattle.root.specs.Roots.{log_of}
-use Rattle.root.specs.Latest.{pages_last, latest_stands}
+use Rattle.root.proofs.Logged.{pages_last, latest_stands}
 
 pub log_count : (s : Root) → vec_len s.entries ≡ length (log_of s)
 log_count s = s.entries.ok.0 ∙ sym (length-map (vec_items s.entries) (publication (vec_items s.rows)))

@@ -3,9 +3,9 @@ use Rattle.zone.specs.Refusals.{answered}
 use Rattle.zone.proofs.Testing.{decides_era_table}
 use Rattle.provider.specs.Meaning.{last_edition}
 use Rattle.root.specs.Order.{InOrder}
-use Rattle.root.specs.Roots.{log_of, has_room, accepts, Added}
-use Rattle.root.specs.Grown.{in_order_add}
-use Rattle.root.proofs.Steps.{next_added, accepted, when_yes}
+use Rattle.root.specs.Roots.{log_of, has_room}
+use Rattle.root.proofs.Growing.{in_order_add}
+use Rattle.root.proofs.Steps.{next_added, accepted}
 use Rattle.root.proofs.providing.RootPublishing.publish.Goals as goal
 
 pub returns-clause-told : goal.returns-clause-told
