@@ -1,8 +1,7 @@
 -- Pages that are kept, in eight places. Assumes nothing.
-use Rattle.std.specs.Prelude.{ℕ, Bool, true, false, cond, List, map, replicate, Some, None, vec_items, Option, nat_le, slice_index_or, slice_set}
+use Rattle.std.specs.Prelude.{ℕ, Bool, true, false, cond, List, map, replicate, Some, None, vec_items, Option, nat_le, position, slice_index_or, slice_set}
 use Rattle.names.specs.declared.name.Name.{Name}
 use Rattle.names.specs.Comparing.{same_name}
-use Rattle.names.specs.Finding.{first_place}
 use Rattle.zone.specs.declared.rows.Interval.{Interval}
 use Rattle.zone.specs.declared.rows.Row.{Row}
 use Rattle.zone.specs.declared.windows.Window.{Window}
@@ -30,7 +29,7 @@ kept_in p = labelled p.label p.window
 
 -- what the places keep, in their order
 abbrev pub kept : Places → List (Option Kept)
-kept p = map kept_in (vec_items p.places)
+kept p = map kept_in p.places
 
 -- eight places that keep nothing
 abbrev pub none_kept : List (Option Kept)
@@ -52,7 +51,7 @@ is_free (Some k) = false
 
 -- the place of the name's page
 abbrev pub place_of : List (Option Kept) → Name → Option ℕ
-place_of ps n = first_place (is_of n) ps
+place_of ps n = position (is_of n) ps
 
 -- what is kept at a place
 abbrev pub kept_at : List (Option Kept) → Option ℕ → Option Kept
@@ -79,7 +78,7 @@ or_else (Some j) other = Some j
 
 -- where a page of the name goes: in the place of the page that is kept of it, or else in the first free one
 abbrev pub place_for : List (Option Kept) → Name → Option ℕ
-place_for ps n = or_else (place_of ps n) (first_place is_free ps)
+place_for ps n = or_else (place_of ps n) (position is_free ps)
 
 -- the places after a page was put at a place; with no place, as they were
 abbrev pub with_page : List (Option Kept) → Option ℕ → Option Kept → List (Option Kept)

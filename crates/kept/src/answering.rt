@@ -22,10 +22,8 @@ impl Place {
         ensures told { judged result place.new ≡ from_kept edition request (kept_in self.now) }
         ensures leaves { Leaves result request.interval place.old place.new }
     {
-        match self.label {
-            None => Err(Refusal::Silent),
-            Some(label) => answer_window(&self.window, edition, label.tag, request, place),
-        }
+        let label = self.label.ok_or(Refusal::Silent)?;
+        answer_window(&self.window, edition, label.tag, request, place)
     }
 }
 
@@ -40,10 +38,8 @@ impl Places {
         ensures told { judged result place.new ≡ from_kept edition request (kept_for (kept self.now) request.name) }
         ensures leaves { Leaves result request.interval place.old place.new }
     {
-        match self.find(&request.name) {
-            None => Err(Refusal::Silent),
-            Some(i) => self.places[i].answer(edition, request, place),
-        }
+        let i = self.find(&request.name).ok_or(Refusal::Silent)?;
+        self.places[i].answer(edition, request, place)
     }
 
     /// Answers the request, where below replied so to the request that was sent and left this in the window that it was lent; and keeps what is to be kept of it.

@@ -1,6 +1,4 @@
 // Places for pages.
-ghost use Rattle.std.specs.Prelude.{◌≡◌, vec_len};
-
 use names::name::Name;
 use provider::requests::{Edition, Tag};
 use zone::windows::Window;
@@ -20,9 +18,11 @@ pub(crate) struct Place {
     pub(crate) window: Window,
 }
 
+/// How many places there are.
+pub const PLACES: usize = 8;
+
 /// Eight places.
 #[derive(Drop)]
 pub struct Places {
-    pub(crate) places: Vec<Place>,
-    ghost all: { vec_len places ≡ 8 },
+    pub(crate) places: [Place; PLACES],
 }
