@@ -1,12 +1,11 @@
 -- What is kept, place by place. Assumes nothing.
-use Rattle.std.proofs.Common.{◌≡◌, ℕ, suc, ◌+◌, ◌<◌, ◌≤◌, Bool, true, false, cond, not, ltb, List, [], ◌∷◌, map, length, get_or, replicate, set, Some, None, Option, position, sym, refl, ap, ◌∙◌, subst, arith}
+use Rattle.std.proofs.Common.{◌≡◌, ℕ, suc, ◌+◌, ◌<◌, Bool, true, false, cond, not, ltb, List, [], ◌∷◌, map, length, get_or, replicate, Some, None, Option, position, sym, refl, ap, ◌∙◌, subst, arith}
 use Rattle.std.specs.Option.{option_map}
 use Rattle.std.specs.List.{position_or_len}
 use Rattle.std.proofs.lemmas.Grind.{common_steps}
-use Rattle.std.proofs.lemmas.List.{get_or-map, map-set}
-use Rattle.std.proofs.lemmas.List.Sums.{fails_before_first, position_or_len_is}
+use Rattle.std.proofs.lemmas.List.{get_or-map}
+use Rattle.std.proofs.lemmas.List.Sums.{position_or_len_is}
 use Rattle.std.proofs.lemmas.List.Quantifiers.{position-Some}
-use Rattle.std.proofs.lemmas.Bool.{leb-true, leb-false}
 use Rattle.names.specs.declared.name.Name.{Name}
 use Rattle.names.specs.Comparing.{same_name}
 use Rattle.names.proofs.Ordered.{same_name_is}
@@ -38,10 +37,6 @@ module _ {X : Type 0} (p : X → Bool) where
 pub position_of_map : {X Y : Type 0} (p : Y → Bool) (f : X → Y) (xs : List X) → position p (map f xs) ≡ position (λ x. p (f x)) xs
 position_of_map p f [] = refl
 position_of_map p f (x ∷ xs) = position_cons p (f x) (map f xs) ∙ ap (λ o. cond (p (f x)) (Some 0) (option_map suc o)) (position_of_map p f xs) ∙ sym (position_cons (λ y. p (f y)) x xs)
-
--- a place is put in the stead of another
-pub kept_changed : (xs : List Place) (i : ℕ) (new : Place) → map kept_in (set xs i new) ≡ set (map kept_in xs) i (kept_in new)
-kept_changed xs i new = map-set kept_in xs i new
 
 -- places that keep nothing
 pub free_made : (xs : List Place) (n : ℕ) → length xs ≡ n → ((i : ℕ) → i < n → (d : Place) → kept_in (get_or xs i d) ≡ None) → map kept_in xs ≡ replicate n None

@@ -1,5 +1,5 @@
 -- Pages that are kept, in eight places. Assumes nothing.
-use Rattle.std.specs.Prelude.{ℕ, Bool, true, false, cond, List, map, replicate, Some, None, vec_items, Option, nat_le, position, slice_index_or, slice_set}
+use Rattle.std.specs.Prelude.{ℕ, Bool, true, false, if◌then◌else◌, List, map, replicate, Some, None, Option, nat_le, position, slice_index_or, slice_set}
 use Rattle.names.specs.declared.name.Name.{Name}
 use Rattle.names.specs.Comparing.{same_name}
 use Rattle.zone.specs.declared.rows.Interval.{Interval}
@@ -21,7 +21,7 @@ pub record Kept : Type 0 where
 -- what a window keeps under a label, or nothing
 abbrev pub labelled : Option Label → Window → Option Kept
 labelled None w = None
-labelled (Some l) w = Some (record { name = l.name; edition = l.edition; tag = l.tag; interval = w.interval; rows = vec_items w.rows })
+labelled (Some l) w = Some (record { name = l.name; edition = l.version.edition; tag = l.version.tag; interval = w.interval; rows = w.rows.items })
 
 -- what a place keeps
 abbrev pub kept_in : Place → Option Kept
@@ -37,7 +37,7 @@ none_kept = replicate 8 None
 
 -- the label of a page that is kept
 abbrev pub label_of : Kept → Label
-label_of k = record { name = k.name; edition = k.edition; tag = k.tag }
+label_of k = record { name = k.name; version = record { edition = k.edition; tag = k.tag } }
 
 -- a page of this name is kept there
 abbrev pub is_of : Name → Option Kept → Bool
@@ -65,7 +65,7 @@ kept_for ps n = kept_at ps (place_of ps n)
 -- the page, if its window contains the interval
 abbrev pub if_contains : Interval → Option Kept → Option Kept
 if_contains i None = None
-if_contains i (Some k) = cond (within i k.interval) (Some k) None
+if_contains i (Some k) = if within i k.interval then Some k else None
 
 -- what is kept of the name over an interval
 abbrev pub serving : List (Option Kept) → Name → Interval → Option Kept

@@ -7,7 +7,7 @@ ghost use Rattle.kept.specs.Stepping.{answer_after, from_kept, kept_after};
 use super::places::{Label, Place, Places};
 use super::steps::Step;
 use provider::answers::answer_window;
-use provider::requests::{Edition, Reply, Request};
+use provider::requests::{Edition, Reply, Request, Version};
 use zone::refusals::Refusal;
 use zone::windows::Window;
 
@@ -23,7 +23,11 @@ impl Place {
         ensures leaves { Leaves result request.interval place.old place.new }
     {
         let label = self.label.ok_or(Refusal::Silent)?;
-        answer_window(&self.window, edition, label.tag, request, place)
+        let version = Version {
+            edition,
+            ..label.version
+        };
+        answer_window(&self.window, version, request, place)
     }
 }
 
@@ -63,9 +67,10 @@ impl Places {
                 answer
             }
             Step::Take { edition, tag } => {
-                let answer = answer_window(window, edition, tag, request, place);
                 let name = request.name;
-                self.keep(Label { name, edition, tag }, window);
+                let version = Version { edition, tag };
+                let answer = answer_window(window, version, request, place);
+                self.keep(Label { name, version }, window);
                 answer
             }
         }

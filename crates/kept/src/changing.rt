@@ -13,7 +13,8 @@ impl Place {
     fn may_replace(&self, edition: Edition) -> bool
         ensures { result ≡ may_replace edition (kept_in self.now) }
     {
-        self.label.is_none_or(|label| label.edition <= edition)
+        self.label
+            .is_none_or(|label| label.version.edition <= edition)
     }
 
     // The page is from this edition from now on.
@@ -21,7 +22,7 @@ impl Place {
         ensures { kept_in self.new ≡ option_map (from_edition edition) (kept_in self.old) }
     {
         if let Some(label) = &mut self.label {
-            label.edition = edition;
+            label.version.edition = edition;
         }
     }
 
@@ -46,10 +47,10 @@ impl Places {
 
     // Keeps the page that the window holds, if nothing newer is kept of its name and there is a place.
     pub(crate) fn keep(&mut self, label: Label, window: &mut Window)
-        ensures { kept self.new ≡ (if may_replace label.edition (kept_for (kept self.old) label.name) then with_page (kept self.old) (place_for (kept self.old) label.name) (labelled (Some label) window.old) else kept self.old) }
+        ensures { kept self.new ≡ (if may_replace label.version.edition (kept_for (kept self.old) label.name) then with_page (kept self.old) (place_for (kept self.old) label.name) (labelled (Some label) window.old) else kept self.old) }
     {
         if let Some(i) = self.find_for(&label.name) {
-            if self.places[i].may_replace(label.edition) {
+            if self.places[i].may_replace(label.version.edition) {
                 self.places[i].keep(label, window);
             }
         }

@@ -1,14 +1,13 @@
 // Places for pages.
 use names::name::Name;
-use provider::requests::{Edition, Tag};
+use provider::requests::Version;
 use zone::windows::Window;
 
-/// The name, the edition and the tag of the page in a place.
+/// The name of the page in a place, and which page of it that is.
 #[derive(Clone, Copy)]
 pub(crate) struct Label {
     pub(crate) name: Name,
-    pub(crate) edition: Edition,
-    pub(crate) tag: Tag,
+    pub(crate) version: Version,
 }
 
 /// A place: the label of its page, if it has one, and the window that holds it.

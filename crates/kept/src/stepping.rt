@@ -72,7 +72,7 @@ impl Places {
         match self.serving(&request) {
             None => request,
             Some(label) => Request {
-                known: label.tag,
+                known: label.version.tag,
                 ..request
             },
         }
@@ -84,7 +84,7 @@ impl Places {
     {
         match self.serving(request) {
             None => step_beside(reply),
-            Some(label) => step_over(label.edition, reply),
+            Some(label) => step_over(label.version.edition, reply),
         }
     }
 }

@@ -8,4 +8,4 @@ use Rattle.kept.proofs.places.Places.find_free.Goals as goal
 pub returns-clause-place : goal.returns-clause-place
 returns-clause-place c =
     position_from_yields_List (λ place. is_free (kept_in place)) _ _ c.position.result c.position.ensures.ran (YieldsList-from_slice _ c.iter.ensures.rest) (λ x b q k. search (rules, tests))
-        ∙ sym (position_of_map is_free kept_in c.args.self.now.places)
+    ∙ sym (position_of_map is_free kept_in c.args.self.now.places)
