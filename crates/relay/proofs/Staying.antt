@@ -1,5 +1,5 @@
 -- What a relay keeps after a fetch is from the record. Assumes nothing.
-use Rattle.std.proofs.Common.{◌≡◌, ℕ, ◌<◌, ◌≤◌, max, Bool, true, false, cond, ltb, ◌⊎◌, List, Some, None, Ok, Err, vec_items, Option, Result, sym, refl, ap, ◌∙◌, subst, inl, inr, arith}
+use Rattle.std.proofs.Common.{◌≡◌, ℕ, zero, suc, ◌<◌, ◌≤◌, max, Bool, true, false, cond, ltb, ◌⊎◌, List, [], ◌∷◌, get_or, set, Some, None, Ok, Err, vec_items, Option, Result, sym, refl, ap, ◌∙◌, subst, inl, inr, arith}
 use native.Mathlib.Nat.{max-eq_left, max-eq_right}
 use Rattle.std.specs.Option.{option_map}
 use Rattle.std.proofs.lemmas.Bool.{cases_lt}
@@ -24,8 +24,19 @@ use Rattle.kept.specs.Keeping.{Kept, from_edition, kept_for, may_replace, place_
 use Rattle.kept.specs.Stepping.{is_older, kept_after, kept_by, known_by, page_in, sent, step}
 use Rattle.kept.proofs.Finding.{kept_named, serving_parts}
 use Rattle.relay.specs.Relaying.{AllFrom, KeptFrom}
-use Rattle.relay.specs.Over.{with_from}
 use Rattle.relay.proofs.Served.{from}
+
+-- one place changes
+set_from : (m : Meaning) (ps : List (Option Kept)) (i : ℕ) (x : Option Kept) → KeptFrom m x → AllFrom m ps → (j : ℕ) → KeptFrom m (get_or (set ps i x) j None)
+set_from m [] i x h all j = all j
+set_from m (p ∷ ps) zero x h all zero = h
+set_from m (p ∷ ps) zero x h all (suc j) = all (suc j)
+set_from m (p ∷ ps) (suc i) x h all zero = all 0
+set_from m (p ∷ ps) (suc i) x h all (suc j) = set_from m ps i x h (λ l. all (suc l)) j
+
+with_from : (m : Meaning) (ps : List (Option Kept)) (o : Option ℕ) (x : Option Kept) → KeptFrom m x → AllFrom m ps → AllFrom m (with_page ps o x)
+with_from m ps None x h all = all
+with_from m ps (Some i) x h all = set_from m ps i x h all
 
 module _ (m : Meaning) (sound : Sound m) (ps : List (Option Kept)) (all : AllFrom m ps) (q : Request) (pass : Passes q m.span) where
   -- a fresh window holds the record's page
