@@ -50,7 +50,7 @@ free_made xs n long free = subst (λ k. map kept_in xs ≡ replicate k None) lon
         cc
 
 -- what keeps nothing is free
-free_is : (o : Option Kept) → is_free o ≡ true → o ≡ None
+pub free_is : (o : Option Kept) → is_free o ≡ true → o ≡ None
 free_is None h = refl
 free_is (Some k) h = cc
 

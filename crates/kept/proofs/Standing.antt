@@ -4,7 +4,7 @@ use native.Mathlib.Nat.{le-max_left}
 use Rattle.std.specs.Option.{option_map}
 use Rattle.std.proofs.lemmas.List.{length-set, get_or-set_same, get_or-set_other}
 use Rattle.std.proofs.lemmas.List.Quantifiers.{position-Some}
-use Rattle.std.proofs.lemmas.Bool.{both_ways, cases_eq, leb-true}
+use Rattle.std.proofs.lemmas.Bool.{both_ways, cases_eq, false_from_ne_true, leb-true}
 use Rattle.names.specs.declared.name.Name.{Name}
 use Rattle.names.specs.Comparing.{same_name}
 use Rattle.names.proofs.Ordered.{same_name_is, same_name_self}
@@ -18,17 +18,12 @@ use Rattle.kept.specs.declared.steps.Step.TheVariants.{PassOn, Serve, Renew, Tak
 use Rattle.kept.specs.Keeping.{Kept, from_edition, is_free, is_of, kept_at, kept_for, may_replace, none_kept, or_else, place_for, place_of, serving, with_page}
 use Rattle.kept.specs.Laws.{Apart, KeptWell, NoLower, PagesStand}
 use Rattle.kept.specs.Stepping.{is_older, kept_by, page_in, step}
-use Rattle.kept.proofs.Finding.{found_at, kept_named, position_cons, serving_parts}
+use Rattle.kept.proofs.Finding.{found_at, free_is, kept_named, position_cons, serving_parts}
 
 -- two names of what is kept at one place are the same
 one_name : (x y : Name) (o : Option Kept) → is_of x o ≡ true → is_of y o ≡ true → x ≡ y
-one_name x y None h g = let z : ◌≡◌ {A = ℕ} 0 1 = cc in absurd (omega arith)
+one_name x y None h g = cc
 one_name x y (Some k) h g = sym (same_name_is k.name x h) ∙ same_name_is k.name y g
-
--- a free place is of no name
-not_free : (x : Name) (o : Option Kept) → is_free o ≡ true → is_of x o ≡ false
-not_free x None h = refl
-not_free x (Some k) h = let z : ◌≡◌ {A = ℕ} 0 1 = cc in absurd (omega arith)
 
 -- where none was found, none passes
 none_passes : (test : Option Kept → Bool) (ps : List (Option Kept)) → test None ≡ false → position test ps ≡ None → (i : ℕ) → test (get_or ps i None) ≡ false
@@ -80,12 +75,8 @@ module _ (ps : List (Option Kept)) (n : Name) (j : ℕ) where
 
   -- only a page of the name stands there
   goes_there : Goes ps n j → (x : Name) → (x ≡ n → ⊥) → is_of x (get_or ps j None) ≡ false
-  goes_there (over h) x d = by (is_of x (get_or ps j None)) refl
-    where
-      by : (b : Bool) → is_of x (get_or ps j None) ≡ b → b ≡ false
-      by true e = absurd (d (one_name x n (get_or ps j None) e (position-Some (is_of n) ps j None h).1))
-      by false e = refl
-  goes_there (beside h f) x d = not_free x (get_or ps j None) (position-Some is_free ps j None f).1
+  goes_there (over h) x d = false_from_ne_true _ (λ e. d (one_name x n (get_or ps j None) e (position-Some (is_of n) ps j None h).1))
+  goes_there (beside h f) x d = ap (is_of x) (free_is _ (position-Some is_free ps j None f).1)
 
   -- and nowhere else
   goes_only : Goes ps n j → Apart ps → (i : ℕ) → is_of n (get_or ps i None) ≡ true → i ≡ j
@@ -125,11 +116,7 @@ module _ (ps : List (Option Kept)) (n : Name) (j : ℕ) where
         by (inr u) (inr v) = apart x a b u.1 v.1
 
     other_than : (x : Name) → (x ≡ n → ⊥) → is_of x (Some k) ≡ false
-    other_than x d = by (is_of x (Some k)) refl
-      where
-        by : (b : Bool) → is_of x (Some k) ≡ b → b ≡ false
-        by true e = absurd (d (one_name x n (Some k) e is_its))
-        by false e = refl
+    other_than x d = false_from_ne_true _ (λ e. d (one_name x n (Some k) e is_its))
 
     put_well : NoLower (kept_for ps n) (Some k) → KeptWell ps (set ps j (Some k)) n
     put_well low = record {

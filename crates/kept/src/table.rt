@@ -2,7 +2,7 @@
 ghost use Rattle.std.specs.Prelude.{◌≡◌, ◌<◌, IfSome, IfOk, None, position};
 ghost use Rattle.kept.specs.Keeping.{is_free as free_there, is_of as kept_of, kept, kept_in, none_kept, place_for, place_of};
 
-use super::places::{Place, Places};
+use super::places::{PLACES, Place, Places};
 use names::name::Name;
 use std::alloc::{AllocError, Global};
 use std::array;
@@ -45,9 +45,10 @@ impl Places {
     }
 
     // The number of the place that keeps a page of the name.
+    // That it is one of the places stands beside each search: a type for such numbers would only be opened again at every index.
     pub(crate) fn find(&self, name: &Name) -> Option<usize>
         ensures place { result ≡ place_of (kept self.now) name.now }
-        ensures within { IfSome result (λ i. i < 8) }
+        ensures within { IfSome result (λ i. i < PLACES) }
     {
         self.places.iter().position(|place| place.is_of(name))
     }
@@ -55,7 +56,7 @@ impl Places {
     // The number of the first free place.
     fn find_free(&self) -> Option<usize>
         ensures place { result ≡ position free_there (kept self.now) }
-        ensures within { IfSome result (λ i. i < 8) }
+        ensures within { IfSome result (λ i. i < PLACES) }
     {
         self.places.iter().position(|place| place.is_free())
     }
@@ -63,7 +64,7 @@ impl Places {
     // The number of the place where a page of the name goes.
     pub(crate) fn find_for(&self, name: &Name) -> Option<usize>
         ensures place { result ≡ place_for (kept self.now) name.now }
-        ensures within { IfSome result (λ i. i < 8) }
+        ensures within { IfSome result (λ i. i < PLACES) }
     {
         self.find(name).or_else(|| self.find_free())
     }
