@@ -1,6 +1,6 @@
 -- What is kept, place by place. Assumes nothing.
 use Rattle.std.proofs.Common.{◌≡◌, ℕ, suc, ◌+◌, ◌<◌, Bool, true, false, cond, not, ltb, List, [], ◌∷◌, map, length, get_or, replicate, Some, None, Option, position, sym, refl, ap, ◌∙◌, subst, arith}
-use Rattle.std.specs.Option.{option_map}
+use Rattle.std.specs.Option.{option_map, option_or}
 use Rattle.std.specs.List.{position_or_len}
 use Rattle.std.proofs.lemmas.Grind.{common_steps}
 use Rattle.std.proofs.lemmas.List.{get_or-map}
@@ -12,7 +12,7 @@ use Rattle.names.proofs.Ordered.{same_name_is}
 use Rattle.zone.specs.declared.rows.Interval.{Interval}
 use Rattle.zone.specs.Intervals.{within}
 use Rattle.kept.specs.declared.places.Place.{Place}
-use Rattle.kept.specs.Keeping.{Kept, if_contains, is_free, is_of, kept_at, kept_for, kept_in, may_replace, or_else, place_for, place_of}
+use Rattle.kept.specs.Keeping.{Kept, if_contains, is_free, is_of, kept_at, kept_for, kept_in, may_replace, place_for, place_of}
 
 module _ {X : Type 0} (p : X → Bool) where
   -- a search of one more place
@@ -58,7 +58,7 @@ free_is (Some k) h = cc
 pub kept_where : (ps : List (Option Kept)) (n : Name) (j : ℕ) → place_for ps n ≡ Some j → get_or ps j None ≡ kept_for ps n
 kept_where ps n j h = by (place_of ps n) (position is_free ps) refl h
   where
-    by : (o f : Option ℕ) → position is_free ps ≡ f → or_else o f ≡ Some j → get_or ps j None ≡ kept_at ps o
+    by : (o f : Option ℕ) → position is_free ps ≡ f → option_or o f ≡ Some j → get_or ps j None ≡ kept_at ps o
     by (Some k) f e g = let is : k ≡ j = cc in ap (λ i. get_or ps i None) (sym is)
     by None f e g = free_is _ (position-Some is_free ps j None (e ∙ g)).1
 

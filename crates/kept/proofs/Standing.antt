@@ -1,7 +1,7 @@
 -- What is kept stays one page a name. Assumes nothing.
 use Rattle.std.proofs.Common.{◌≡◌, ℕ, zero, suc, ◌<◌, max, Bool, true, false, cond, ltb, ◌⊎◌, List, [], ◌∷◌, length, get_or, set, replicate, Some, None, Ok, Err, Option, Result, position, sym, refl, ap, ◌∙◌, subst, inl, inr, arith}
 use native.Mathlib.Nat.{le-max_left}
-use Rattle.std.specs.Option.{option_map}
+use Rattle.std.specs.Option.{option_map, option_or}
 use Rattle.std.proofs.lemmas.List.{length-set, get_or-set_same, get_or-set_other}
 use Rattle.std.proofs.lemmas.List.Quantifiers.{position-Some}
 use Rattle.std.proofs.lemmas.Bool.{both_ways, cases_eq, false_from_ne_true, leb-true}
@@ -15,7 +15,7 @@ use Rattle.provider.specs.declared.requests.Reply.TheVariants.{Unchanged, Fresh}
 use Rattle.provider.specs.declared.requests.Request.{Request}
 use Rattle.kept.specs.declared.steps.Step.{Step}
 use Rattle.kept.specs.declared.steps.Step.TheVariants.{PassOn, Serve, Renew, Take}
-use Rattle.kept.specs.Keeping.{Kept, from_edition, is_free, is_of, kept_at, kept_for, may_replace, none_kept, or_else, place_for, place_of, serving, with_page}
+use Rattle.kept.specs.Keeping.{Kept, from_edition, is_free, is_of, kept_at, kept_for, may_replace, none_kept, place_for, place_of, serving, with_page}
 use Rattle.kept.specs.Laws.{Apart, KeptWell, NoLower, PagesStand}
 use Rattle.kept.specs.Stepping.{is_older, kept_by, page_in, step}
 use Rattle.kept.proofs.Finding.{found_at, free_is, kept_named, position_cons, serving_parts}
@@ -135,7 +135,7 @@ module _ (ps : List (Option Kept)) (q : Request) (w : Window) where
   take_well : (e t : ℕ) → KeptWell ps (kept_by ps q w (Take e t)) q.name
   take_well e t = by (may_replace e (kept_for ps q.name)) refl
     where
-      put : (o f : Option ℕ) → place_of ps q.name ≡ o → position is_free ps ≡ f → may_replace e (kept_for ps q.name) ≡ true → KeptWell ps (with_page ps (or_else o f) (Some (page_in q e t w))) q.name
+      put : (o f : Option ℕ) → place_of ps q.name ≡ o → position is_free ps ≡ f → may_replace e (kept_for ps q.name) ≡ true → KeptWell ps (with_page ps (option_or o f) (Some (page_in q e t w))) q.name
       put (Some j) f is g m = put_well ps q.name j (page_in q e t w) (over is) refl (replaces e (kept_for ps q.name) (page_in q e t w) m refl)
       put None (Some j) is g m = put_well ps q.name j (page_in q e t w) (beside is g) refl (replaces e (kept_for ps q.name) (page_in q e t w) m refl)
       put None None is g m = as_before ps q.name

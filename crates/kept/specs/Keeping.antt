@@ -1,5 +1,6 @@
 -- Pages that are kept, in eight places. Assumes nothing.
 use Rattle.std.specs.Prelude.{ℕ, Bool, true, false, if◌then◌else◌, List, map, replicate, Some, None, Option, nat_le, position, slice_index_or, slice_set}
+use Rattle.std.specs.Option.{option_or}
 use Rattle.names.specs.declared.name.Name.{Name}
 use Rattle.names.specs.Comparing.{same_name}
 use Rattle.zone.specs.declared.rows.Interval.{Interval}
@@ -71,14 +72,9 @@ if_contains i (Some k) = if within i k.interval then Some k else None
 abbrev pub serving : List (Option Kept) → Name → Interval → Option Kept
 serving ps n i = if_contains i (kept_for ps n)
 
--- the one place, or else the other
-abbrev pub or_else : Option ℕ → Option ℕ → Option ℕ
-or_else None other = other
-or_else (Some j) other = Some j
-
 -- where a page of the name goes: in the place of the page that is kept of it, or else in the first free one
 abbrev pub place_for : List (Option Kept) → Name → Option ℕ
-place_for ps n = or_else (place_of ps n) (position is_free ps)
+place_for ps n = option_or (place_of ps n) (position is_free ps)
 
 -- the places after a page was put at a place; with no place, as they were
 abbrev pub with_page : List (Option Kept) → Option ℕ → Option Kept → List (Option Kept)
