@@ -2,8 +2,12 @@
 use Rattle.std.proofs.Common.{◌≡◌, ℕ, zero, suc, ◌+◌, ◌-◌, ◌<◌, ◌≤◌, Bool, true, false, cond, not, ◌&&◌, eqb, leb, List, [], ◌∷◌, ◌++◌, length, get_or, take, drop, replicate, Decides, sym, refl, ap, ◌∙◌, inl, inr, arith}
 use Rattle.std.proofs.lemmas.Bool.{leb-true, eqb-true, eq-eqb, false≢true, and_parts, and_from, cases_Bool}
 use Rattle.std.proofs.lemmas.Bool.Decides.{nat_tests}
-use Rattle.std.proofs.lemmas.List.{take_more, append_assoc, append-nil, at_drop_more, at_drop_all}
+use Rattle.std.proofs.lemmas.List.{at_drop_more, at_drop_all}
+use Rattle.std.specs.Prelude.{◌==◌}
+use Rattle.std.specs.List.{position, position_or_len}
+use Rattle.std.specs.Option.{unwrap_or}
 use Rattle.names.specs.Names.{name_byte, blank, padded, is_name, name_bytes, is_text, held, spelled}
+use Rattle.std.proofs.lemmas.List.Sums.{prefix_len-le-length}
 use Rattle.names.specs.Laws.{Spells, NamesStand}
 
 -- zero is no name byte
@@ -28,27 +32,20 @@ padded_name (b ∷ bs) l h = elim (cases_Bool (name_byte b)) [
   | inr n ↦ rw (n, (and_parts (eqb b 0) (blank bs) (sym (padded_no b bs n) ∙ h)).0)
 ]
 
--- the bytes before the padding, one more
-pub spelled_more : (bs : List ℕ) (i : ℕ) → i < length bs → eqb (get_or bs i 0) 0 ≡ false → take i bs ++ spelled (drop i bs) ≡ take (i + 1) bs ++ spelled (drop (i + 1) bs)
-spelled_more bs i l h =
-    let d : spelled (drop i bs) ≡ get_or bs i 0 ∷ spelled (drop (i + 1) bs) = at_drop_more spelled bs i 0 l ∙ rw h refl in
-    let t = take_more bs i 0 l in
-    rw (d, t, append_assoc)
+take_suc : (b : ℕ) (n : ℕ) (bs : List ℕ) → take (1 + n) (b ∷ bs) ≡ b ∷ take n bs
+take_suc b n bs = let e : 1 + n ≡ suc n = omega arith in ap (λ m. take m (b ∷ bs)) e
 
-pub spelled_stop : (bs : List ℕ) (i : ℕ) → i < length bs → eqb (get_or bs i 0) 0 ≡ true → take i bs ++ spelled (drop i bs) ≡ take i bs
-spelled_stop bs i l h =
-    let d : spelled (drop i bs) ≡ [] = at_drop_more spelled bs i 0 l ∙ rw h refl in
-    rw (d, append-nil)
+-- the bytes before the padding are those before the first zero byte
+first_zero : (bs : List ℕ) → take (position_or_len (λ b. eqb b 0) bs) bs ≡ spelled bs
+first_zero [] = refl
+first_zero (b ∷ bs) = step (eqb b 0) (first_zero bs)
+  where
+    step : (e : Bool) → take (position_or_len (λ x. eqb x 0) bs) bs ≡ spelled bs → take (cond (not e) (1 + position_or_len (λ x. eqb x 0) bs) 0) (b ∷ bs) ≡ cond e [] (b ∷ spelled bs)
+    step true h = refl
+    step false h = let t = take_suc b (position_or_len (λ x. eqb x 0) bs) bs in t ∙ ap (λ x. b ∷ x) h
 
-pub spelled_all : (bs : List ℕ) (i : ℕ) → length bs ≤ i → take i bs ++ spelled (drop i bs) ≡ take i bs
-spelled_all bs i l = rw (at_drop_all spelled bs i l, append-nil)
-
--- what is left of name bytes at place i
-pub bytes_more : (bs : List ℕ) (i : ℕ) → i < length bs → name_byte (get_or bs i 0) ≡ true → name_bytes (drop i bs) ≡ name_bytes (drop (i + 1) bs)
-bytes_more bs i l h = at_drop_more name_bytes bs i 0 l ∙ rw h refl
-
-pub bytes_stop : (bs : List ℕ) (i : ℕ) → i < length bs → name_byte (get_or bs i 0) ≡ false → name_bytes (drop i bs) ≡ false
-bytes_stop bs i l h = at_drop_more name_bytes bs i 0 l ∙ rw h refl
+pub text_stops : (bs : List ℕ) (most n : ℕ) → length bs ≡ most → n ≡ unwrap_or (position (λ b. b == 0) bs) most → take n bs ≡ spelled bs
+text_stops bs most n l h = let k = prefix_len-le-length (λ b. not (eqb b 0)) bs in let e : n ≡ position_or_len (λ b. eqb b 0) bs = grind (arith, nat_tests) in ap (λ i. take i bs) e ∙ first_zero bs
 
 -- what is left to hold of the bytes, where the padding has begun or not
 abbrev pub left_padded : Bool → List ℕ → Bool

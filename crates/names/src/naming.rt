@@ -1,8 +1,8 @@
 // Names made from text, checked, compared and spelled.
-ghost use Rattle.std.specs.Prelude.{◌≡◌, ◌≤◌, ◌++◌, length, take, drop, Decides};
+ghost use Rattle.std.specs.Prelude.{◌≡◌, ◌≤◌, ◌++◌, length, take, drop};
 ghost use Rattle.names.specs.Names.{name_byte, is_name, is_text, name_bytes, held, spelled};
 
-use super::name::Name;
+use super::name::{NAME_BYTES, Name};
 
 /// Whether a zone name may have this byte.
 pub fn is_name_byte(byte: u8) -> bool
@@ -20,19 +20,14 @@ pub fn is_name_byte(byte: u8) -> bool
 fn are_name_bytes(text: &[u8]) -> bool
     ensures { result ≡ name_bytes text.now }
 {
-    for byte in text {
-        if !is_name_byte(*byte) {
-            return false;
-        }
-    }
-    true
+    text.iter().all(|byte| is_name_byte(*byte))
 }
 
 /// Whether the text is that of a zone name: 1 to 48 letters, digits, '/', '_', '+' and '-'.
 pub fn is_name_text(text: &[u8]) -> bool
     ensures { result ≡ is_text text.now }
 {
-    1 <= text.len() && text.len() <= 48 && are_name_bytes(text)
+    1 <= text.len() && text.len() <= NAME_BYTES && are_name_bytes(text)
 }
 
 // Puts the text at the front of the bytes.
@@ -48,7 +43,7 @@ impl Name {
     pub fn from_text(text: &[u8]) -> Name
         ensures { result.bytes ≡ held text.now }
     {
-        let mut bytes = [0; 48];
+        let mut bytes = [0; NAME_BYTES];
         if is_name_text(text) {
             put(text, &mut bytes);
         }
@@ -74,30 +69,15 @@ impl Name {
         self.bytes[0] != 0
     }
 
-    /// Whether the two names are the same.
-    pub fn same(&self, other: &Name) -> bool
-        ensures name { Decides result (self.now ≡ other.now) }
-        ensures bytes { Decides result (self.now.bytes ≡ other.now.bytes) }
-    {
-        for i in 0..48usize {
-            if self.bytes[i] != other.bytes[i] {
-                return false;
-            }
-        }
-        true
-    }
-
     // How many bytes stand before the padding.
     fn text_len(&self) -> usize
-        ensures within { result ≤ 48 }
+        ensures within { result ≤ NAME_BYTES }
         ensures text { take result self.now.bytes ≡ spelled self.now.bytes }
     {
-        for i in 0..48usize {
-            if self.bytes[i] == 0 {
-                return i;
-            }
-        }
-        48
+        self.bytes
+            .iter()
+            .position(|b| *b == 0)
+            .unwrap_or(NAME_BYTES)
     }
 
     /// The bytes before the padding.
