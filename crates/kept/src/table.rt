@@ -30,7 +30,7 @@ impl Place {
     fn is_of(&self, name: &Name) -> bool
         ensures { result ≡ kept_of name.now (kept_in self.now) }
     {
-        self.label.is_some_and(|label| label.name.same(name))
+        self.label.is_some_and(|label| label.name == *name)
     }
 }
 
