@@ -6,16 +6,18 @@ use Rattle.provider.specs.Fetching.{checked, passes}
 use Rattle.provider.proofs.Checks.{checked_answer}
 use Rattle.provider.proofs.Layers.{passes_no, refused_fetch, when_no}
 use Rattle.kept.specs.Keeping.{kept}
+use Rattle.relay.specs.Relaying.{Relayed}
 use Rattle.relay.proofs.Calls.{relayed_fetch}
 use Rattle.relay.proofs.relays.RelayProvider.fetch.Goals as goal
 
 pub returns-in_err-check-clause-after : goal.returns-in_err-check-clause-after
 returns-in_err-check-clause-after g c =
     let q = c.args.request in
-    let span = g.P.Provider.span c.args.self.now.below in
+    let s = c.args.self.now in
+    let span = g.P.Provider.span s.below in
     let e = c.in_err-check.field-0.0 in
     let h = subst (λ (i : Interval). ◌≡◌ {A = Outcome (Unit {0})} (outcome (Err e)) (checked q i (answered tt))) c.span.ensures c.in_err-check.ensures in
-    when_no _ _ (passes q span) (passes_no q span (number e) (values e) h) refl
+    when_no (Relayed g.P.Provider (kept s.places) (kept s.places) s.below s.below q) (s ≡ s) (passes q span) (passes_no q span (number e) (values e) h) refl
 
 pub returns-in_err-check-clause-told : goal.returns-in_err-check-clause-told
 returns-in_err-check-clause-told g c =
