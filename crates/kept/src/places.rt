@@ -11,6 +11,7 @@ pub(crate) struct Label {
 }
 
 /// A place: the label of its page, if it has one, and the window that holds it.
+// The window stands beside the option and not in it: its memory is taken when the place is made, and swapped with each page.
 #[derive(Drop)]
 pub(crate) struct Place {
     pub(crate) label: Option<Label>,

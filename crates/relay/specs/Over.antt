@@ -1,5 +1,5 @@
 -- What a relay means over a provider, and that it is sound. Assumes nothing.
-use Rattle.std.specs.Prelude.{ℕ, ◌≤◌, Bool, true, false, cond, List, Some, None, Option}
+use Rattle.std.specs.Prelude.{ℕ, ◌≤◌, Bool, true, false, if◌then◌else◌, List, Some, None, Option}
 use Rattle.std.proofs.Math.Nat.{max-le}
 use Rattle.zone.specs.declared.rows.Interval.{Interval}
 use Rattle.zone.specs.Intervals.{within}
@@ -22,7 +22,7 @@ contains_from : (m : Meaning) (i : Interval) (o : Option Kept) → KeptFrom m o 
 contains_from m i None h = tt
 contains_from m i (Some k) h = by (within i k.interval)
   where
-    by : (b : Bool) → KeptFrom m (cond b (Some k) None)
+    by : (b : Bool) → KeptFrom m (if b then Some k else None)
     by true = h
     by false = tt
 
