@@ -18,7 +18,7 @@ pub(crate) fn place_in_force(rows: &[Row], at: Instant) -> usize
     ensures within { result < length rows.now }
     ensures row { row_at rows.now result ≡ in_force rows.now at.0 }
 {
-    // A `for` that keeps the last one, as the customer asks for.
+    // A `for` over the rows, and no search from the end: the customer asks for this form.
     let mut place = 0;
     for (i, row) in rows.iter().enumerate() {
         if row.onset <= at.0 {

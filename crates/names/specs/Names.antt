@@ -8,8 +8,7 @@ name_byte b = (nat_le 65 b && nat_le b 90) || ((nat_le 97 b && nat_le b 122) || 
 
 -- zero bytes only
 abbrev pub blank : List ℕ → Bool
-blank [] = true
-blank (b ∷ bs) = b == 0 && blank bs
+blank bytes = list_all (λ b. b == 0) bytes
 
 -- name bytes, and after them zero bytes only
 abbrev pub padded : List ℕ → Bool

@@ -1,6 +1,6 @@
 // Names made from text, checked, compared and spelled.
 ghost use Rattle.std.specs.Prelude.{◌≡◌, ◌≤◌, ◌++◌, length, take, drop};
-ghost use Rattle.names.specs.Names.{name_byte, is_name, is_text, name_bytes, held, spelled};
+ghost use Rattle.names.specs.Names.{name_byte, blank, is_name, is_text, name_bytes, held, spelled};
 
 use super::name::{NAME_BYTES, Name};
 
@@ -8,19 +8,21 @@ use super::name::{NAME_BYTES, Name};
 pub fn is_name_byte(byte: u8) -> bool
     ensures { result ≡ name_byte byte }
 {
-    (byte >= b'A' && byte <= b'Z')
-        || (byte >= b'a' && byte <= b'z')
-        || (byte >= b'0' && byte <= b'9')
-        || byte == b'/'
-        || byte == b'_'
-        || byte == b'+'
-        || byte == b'-'
+    byte.is_ascii_alphanumeric() || matches!(byte, b'/' | b'_' | b'+' | b'-')
 }
 
+// Whether they are name bytes only.
 fn are_name_bytes(text: &[u8]) -> bool
     ensures { result ≡ name_bytes text.now }
 {
     text.iter().all(|byte| is_name_byte(*byte))
+}
+
+// Whether they are zero bytes only.
+fn are_blank(bytes: &[u8]) -> bool
+    ensures { result ≡ blank bytes.now }
+{
+    bytes.iter().all(|byte| *byte == 0)
 }
 
 /// Whether the text is that of a zone name: 1 to 48 letters, digits, '/', '_', '+' and '-'.
@@ -30,14 +32,6 @@ pub fn is_name_text(text: &[u8]) -> bool
     1 <= text.len() && text.len() <= NAME_BYTES && are_name_bytes(text)
 }
 
-// Puts the text at the front of the bytes.
-fn put(text: &[u8], bytes: &mut [u8])
-    requires { length text.now ≤ length bytes.old }
-    ensures { bytes.new ≡ text.now ++ drop (length text.now) bytes.old }
-{
-    bytes[0..text.len()].copy_from_slice(text);
-}
-
 impl Name {
     /// The name with this text; 48 zero bytes, which are no valid name, where the text is no name's.
     pub fn from_text(text: &[u8]) -> Name
@@ -45,28 +39,18 @@ impl Name {
     {
         let mut bytes = [0; NAME_BYTES];
         if is_name_text(text) {
-            put(text, &mut bytes);
+            bytes[..text.len()].copy_from_slice(text);
         }
         Name { bytes }
     }
 
     /// Whether this is a zone name.
+    #[tactic(auto, using(crate::proofs::Spelling::spelled_short, crate::proofs::Spelling::valid_told, crate::proofs::Spelling::valid_not))]
     pub fn is_valid(&self) -> bool
         ensures { result ≡ is_name self.now.bytes }
     {
-        let mut padding = false;
-        for byte in &self.bytes {
-            if is_name_byte(*byte) {
-                if padding {
-                    return false;
-                }
-            } else if *byte == 0 {
-                padding = true;
-            } else {
-                return false;
-            }
-        }
-        self.bytes[0] != 0
+        let text = self.text();
+        is_name_text(text) && are_blank(&self.bytes[text.len()..])
     }
 
     // How many bytes stand before the padding.
@@ -84,6 +68,6 @@ impl Name {
     pub fn text(&self) -> &[u8]
         ensures { result.now ≡ spelled self.now.bytes }
     {
-        &self.bytes[0..self.text_len()]
+        &self.bytes[..self.text_len()]
     }
 }
