@@ -9,7 +9,7 @@ pub struct Local {
     pub observance: Observance,
 }
 
-/// Why a cut is refused.
+/// Why a cut is refused. Not zone's `Refusal`: that names an edition with 6, and a cut knows none.
 #[derive(Clone, Copy, PartialEq, Eq, Debug)]
 pub enum CutRefusal {
     /// 3: the interval does not lie inside.

@@ -1,5 +1,5 @@
 -- Byte order, and the equality of names. Assumes nothing.
-use Rattle.std.proofs.Common.{◌≡◌, ℕ, ◌<◌, Bool, true, false, Decides, Some, subst, ◌&&◌, ◌||◌, eqb, ltb, ◌⊎◌, List, [], ◌∷◌, sym, refl, ap, inl, inr, arith}
+use Rattle.std.proofs.Common.{◌≡◌, ◌≢◌, ℕ, ◌<◌, Bool, true, false, Decides, Some, subst, ◌&&◌, ◌||◌, eqb, ltb, ◌⊎◌, List, [], ◌∷◌, sym, refl, ap, inl, inr, arith}
 use Rattle.std.proofs.lemmas.Slice.Eq.{bytes_eq-Decides}
 use Rattle.std.proofs.lemmas.Bool.Decides.{nat_tests}
 use Rattle.std.proofs.lemmas.Cmp.{same_from_slice_cmp_tested}
@@ -51,7 +51,7 @@ less x y p h = grind (arith, nat_tests)
 level : (x y : ℕ) (p : Bool) → x ≡ y → p ≡ true → (ltb x y || (eqb x y && p)) ≡ true
 level x y p h k = grind (arith, nat_tests)
 
-before_some : (a b : List ℕ) → (a ≡ b → ⊥) → (before a b ≡ true) ⊎ (before b a ≡ true)
+before_some : (a b : List ℕ) → (a ≢ b) → (before a b ≡ true) ⊎ (before b a ≡ true)
 before_some [] [] n = absurd (n refl)
 before_some [] (y ∷ ys) n = inl refl
 before_some (x ∷ xs) [] n = inr refl

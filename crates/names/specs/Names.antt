@@ -1,5 +1,5 @@
 -- Zone names. Assumes nothing.
-use Rattle.std.specs.Prelude.{ℕ, ◌-◌, Bool, true, false, cond, ◌&&◌, ◌||◌, List, [], ◌∷◌, ◌++◌, length, replicate, ◌==◌, nat_le}
+use Rattle.std.specs.Prelude.{ℕ, ◌-◌, Bool, true, false, if◌then◌else◌, ◌&&◌, ◌||◌, List, [], ◌∷◌, ◌++◌, length, replicate, ◌==◌, nat_le}
 use Rattle.std.specs.List.{list_all}
 
 -- a letter, a digit, '/', '_', '+' or '-'
@@ -13,7 +13,7 @@ blank bytes = list_all (λ b. b == 0) bytes
 -- name bytes, and after them zero bytes only
 abbrev pub padded : List ℕ → Bool
 padded [] = true
-padded (b ∷ bs) = cond (name_byte b) (padded bs) (b == 0 && blank bs)
+padded (b ∷ bs) = (if name_byte b then padded bs else (b == 0 && blank bs))
 
 -- a name, held with its padding: a name byte, and then such bytes
 abbrev pub is_name : List ℕ → Bool
@@ -30,9 +30,9 @@ is_text text = nat_le 1 (length text) && (nat_le (length text) 48 && name_bytes 
 
 -- the text with its padding; 48 zero bytes, which are no name, where the text is none
 abbrev pub held : List ℕ → List ℕ
-held text = cond (is_text text) (text ++ replicate (48 - length text) 0) (replicate 48 0)
+held text = (if is_text text then text ++ replicate (48 - length text) 0 else replicate 48 0)
 
 -- the bytes before the padding
 abbrev pub spelled : List ℕ → List ℕ
 spelled [] = []
-spelled (b ∷ bs) = cond (b == 0) [] (b ∷ spelled bs)
+spelled (b ∷ bs) = (if b == 0 then [] else (b ∷ spelled bs))

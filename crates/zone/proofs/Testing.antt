@@ -1,8 +1,8 @@
 -- The tests of tables tell the facts. Assumes nothing.
-use Rattle.std.proofs.Common.{◌≡◌, ℕ, ◌+◌, ◌-◌, ◌≤◌, Bool, true, false, ◌&&◌, leb, List, length, ℤ, ◌≤ℤ◌, ◌<ℤ◌, Decides, Ok, Err, Result, sym, refl, ap, ◌∙◌, subst, inl, inr, arith}
+use Rattle.std.proofs.Common.{◌≡◌, ℕ, ◌+◌, ◌-◌, ◌≤◌, Bool, true, false, ◌&&◌, leb, List, length, ℤ, ◌≤ℤ◌, ◌<ℤ◌, Decides, Ok, Err, Result, sym, refl, ap, ◌∙◌, subst, arith}
 use lib.Signed.{lt_z, le_z}
 use Rattle.std.proofs.lemmas.Int.{ints}
-use Rattle.std.proofs.lemmas.Bool.{leb-true, le-leb, and_left, cases_Bool, false≢true}
+use Rattle.std.proofs.lemmas.Bool.{leb-true, le-leb, false≢true}
 use Rattle.std.proofs.lemmas.Bool.Decides.{same_from_decides, Decides-at, Decides-by_and, Decides-like, Decides-and, Decides-ltb, Decides-below_and}
 use Rattle.std.proofs.lemmas.List.Elements.{All-get_or, All-from_get_or}
 use Rattle.std.specs.List.{IsAllAdjacentAnswer, list_all}
@@ -95,9 +95,6 @@ tables_stand = record { tables = decides_table; over_era = decides_era_table }
 pub era_table_yes : (i : Interval) (rows : List Row) (r : Bool) → (i.start ≡ era.start) × (i.end ≡ era.end) → Decides r (Sound table_rows i rows) → r ≡ is_era_table i rows
 era_table_yes i rows r s d =
     same_from_decides r (is_table i rows) d (decides_table i rows) ∙ sym (ap (λ b. b && is_table i rows) ((decides_interval i era).1 (interval_from i era s.0 s.1)))
-
-pub era_table_no : (i : Interval) (rows : List Row) → ((i.start ≡ era.start) × (i.end ≡ era.end) → ⊥) → is_era_table i rows ≡ false
-era_table_no i rows n = and_left (same_interval i era) (is_table i rows) (elim (cases_Bool (same_interval i era)) [ inl y ↦ absurd (let q = (decides_interval i era).0 y in n (ap (λ (x : Interval). x.start) q, ap (λ (x : Interval). x.end) q)) | inr f ↦ f ])
 
 -- what holds where a call went well
 pub on_ok : {E P : Type 0} (r : Result (Unit {0}) E) → OnOk r P → is_ok r ≡ true → P

@@ -5,6 +5,8 @@ ghost use Rattle.zone.specs.Rows.{Begins, Joined, Ends, Small, window_rows};
 
 use super::rows::{Interval, Row};
 
+// Two types with the same fields, and no type parameter: a table may hold anything until it is tested, and a window keeps its facts from one call to the next.
+
 /// Rows over an interval, as they are handed in to be published. Anything may stand in it; `is_table` tells whether it is a table.
 #[derive(Drop)]
 pub struct Table {
