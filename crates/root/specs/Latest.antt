@@ -1,30 +1,26 @@
--- The latest publication of a name, and the page of an edition. Assumes nothing.
-use Rattle.std.specs.Prelude.{◌≡◌, ℕ, zero, suc, ◌<◌, ◌≤◌, Bool, true, false, ◌&&◌, ◌⊎◌, List, length, take, Some, None, Option, ◌≢◌, nat_le, refl}
+-- The latest publication of a name, and the page of an edition, as far as the proof of a law needs it, which names no lemma of proofs/. Assumes nothing.
+use Rattle.std.specs.Prelude.{◌≡◌, ℕ, zero, suc, ◌<◌, ◌≤◌, true, false, ◌&&◌, ◌⊎◌, List, length, take, Some, None, Option, ◌≢◌, nat_le, refl}
 use Rattle.std.proofs.Common.{sym, ap, subst, ◌∙◌, inl, inr, arith, add-one}
 use Rattle.std.specs.Option.{option_map}
-use Rattle.std.specs.Str.{bytes_eq}
-use Rattle.std.proofs.lemmas.Slice.Eq.{bytes_eq-Decides}
-use Rattle.std.proofs.lemmas.List.{take_all}
 use Rattle.std.proofs.lemmas.List.Sums.{fold_more}
 use Rattle.std.proofs.lemmas.Bool.{cases_Bool}
-use Rattle.std.proofs.lemmas.Bool.Decides.{nat_tests}
+use Rattle.std.proofs.lemmas.Bool.Decides.{nat_tests, not_from_Decides}
 use Rattle.names.specs.declared.name.Name.{Name}
+use Rattle.names.specs.Comparing.{same_name}
+use Rattle.names.proofs.Ordered.{same_name_is, same_name_decides}
 use Rattle.provider.specs.Meaning.{Page}
-use Rattle.root.specs.Laws.{LastBefore, NoneBefore, PagesAreLatest}
+use Rattle.root.specs.Laws.{LastBefore, NoneBefore}
 use Rattle.root.specs.Logs.{Publication, at, nothing, newer, latest, page, pages}
 
-name_from : (a b : Name) → a.bytes ≡ b.bytes → a ≡ b
-name_from a b q = let named : List ℕ → Name = λ bytes. record { bytes = bytes } in ap named q
+-- the test of two names, either way
+pub named_yes : (a b : Name) → a ≡ b → same_name a b ≡ true
+named_yes a b = (same_name_decides a b).1
 
-pub named_yes : (a b : Name) → a ≡ b → bytes_eq a.bytes b.bytes ≡ true
-named_yes a b q = (bytes_eq-Decides a.bytes b.bytes).1 (ap (λ (x : Name). x.bytes) q)
+pub named_no : (a b : Name) → (a ≢ b) → same_name a b ≡ false
+named_no a b n = elim (cases_Bool (same_name a b)) [ inl y ↦ absurd (n (same_name_is a b y)) | inr f ↦ f ]
 
-pub named_no : (a b : Name) → (a ≢ b) → bytes_eq a.bytes b.bytes ≡ false
-named_no a b n = elim (cases_Bool (bytes_eq a.bytes b.bytes)) [ inl y ↦ absurd (n (name_from a b ((bytes_eq-Decides a.bytes b.bytes).0 y))) | inr f ↦ f ]
-
--- two names are the same, or not
-pub same_name : (a b : Name) → (a ≡ b) ⊎ (a ≢ b)
-same_name a b = elim (cases_Bool (bytes_eq a.bytes b.bytes)) [ inl y ↦ inl (name_from a b ((bytes_eq-Decides a.bytes b.bytes).0 y)) | inr f ↦ inr (λ q. let y = named_yes a b q in let z : ◌≡◌ {A = Bool} true false = cc in let w : ◌≡◌ {A = ℕ} 0 1 = cc in omega arith) ]
+alike_or_not : (a b : Name) → (a ≡ b) ⊎ (a ≢ b)
+alike_or_not a b = elim (cases_Bool (same_name a b)) [ inl y ↦ inl (same_name_is a b y) | inr f ↦ inr (not_from_Decides (same_name a b) (same_name_decides a b) f) ]
 
 -- one publication more
 pub newer_yes : (n : Name) (found : Option Publication) (p : Publication) → p.name ≡ n → newer n found p ≡ Some p
@@ -52,7 +48,7 @@ last_no log n j m b q =
 
 pub latest_last : (log : List Publication) (n : Name) (j m : ℕ) → m ≤ length log → LastBefore log n m j → latest n (take m log) ≡ Some (at log j)
 latest_last log n j zero l b = absurd (omega (arith, b.earlier))
-latest_last log n j (suc m) l b = elim (same_name (at log m).name n) [ inl q ↦ last_yes log n j m l b q | inr q ↦ latest_more log n m (omega arith) ∙ (newer_no n (latest n (take m log)) (at log m) q ∙ latest_last log n j m (omega arith) (last_no log n j m b q)) ]
+latest_last log n j (suc m) l b = elim (alike_or_not (at log m).name n) [ inl q ↦ last_yes log n j m l b q | inr q ↦ latest_more log n m (omega arith) ∙ (newer_no n (latest n (take m log)) (at log m) q ∙ latest_last log n j m (omega arith) (last_no log n j m b q)) ]
 
 pub latest_none : (log : List Publication) (n : Name) (m : ℕ) → m ≤ length log → NoneBefore log n m → latest n (take m log) ≡ None
 latest_none log n zero l b = refl
@@ -77,7 +73,7 @@ found_no log n m p e s =
 pub latest_found : (log : List Publication) (n : Name) (m : ℕ) (p : Publication) → m ≤ length log → latest n (take m log) ≡ Some p → (j : ℕ) × LastBefore log n m j × (at log j ≡ p)
 unfolding Found
 latest_found log n zero p l q = let z : ◌≡◌ {A = ℕ} 0 1 = cc in absurd (omega arith)
-latest_found log n (suc m) p l q = elim (same_name (at log m).name n) [ inl e ↦ found_yes log n m p l e q | inr e ↦ found_no log n m p e (latest_found log n m p (omega arith) (sym (newer_no n (latest n (take m log)) (at log m) e) ∙ (sym (latest_more log n m (omega arith)) ∙ q))) ]
+latest_found log n (suc m) p l q = elim (alike_or_not (at log m).name n) [ inl e ↦ found_yes log n m p l e q | inr e ↦ found_no log n m p e (latest_found log n m p (omega arith) (sym (newer_no n (latest n (take m log)) (at log m) e) ∙ (sym (latest_more log n m (omega arith)) ∙ q))) ]
 
 -- the page of an edition that there is
 pub pages_in : (log : List Publication) (e : ℕ) (n : Name) → e ≤ length log → pages log e n ≡ option_map page (latest n (take e log))
@@ -85,28 +81,6 @@ pages_in log zero n l = refl
 pages_in log (suc e) n l =
     let s : (nat_le 1 (suc e) && nat_le (suc e) (length log)) ≡ true = grind (arith, nat_tests) in
     rw s
-
--- the page of the last edition
-pub pages_last : (log : List Publication) (count : ℕ) (n : Name) → count ≡ length log → pages log count n ≡ option_map page (latest n log)
-pages_last log count n c = pages_in log count n (omega arith) ∙ ap (λ xs. option_map page (latest n xs)) (take_all count log (omega arith))
-
--- the latest publication of a name stands in the log
-pub latest_stands : (log : List Publication) (n : Name) (p : Publication) → latest n log ≡ Some p → (j : ℕ) × (j < length log) × (at log j ≡ p)
-latest_stands log n p q =
-    let f = latest_found log n (length log) p (omega arith) (ap (latest n) (take_all (length log) log (omega arith)) ∙ q) in
-    (f.0, f.1.earlier, f.2)
-
-pub pages_past : (log : List Publication) (e : ℕ) (n : Name) → length log < e → pages log e n ≡ None
-pages_past log e n l =
-    let s : (nat_le 1 e && nat_le e (length log)) ≡ false = grind (arith, nat_tests) in
-    rw s
-
-pub pages_are_latest : PagesAreLatest
-pages_are_latest = record {
-  some = λ log n e j l b. pages_in log e n l ∙ ap (option_map page) (latest_last log n j e l b);
-  none = λ log n e l b. pages_in log e n l ∙ ap (option_map page) (latest_none log n e l b);
-  past = λ log n e l. pages_past log e n l;
-}
 
 -- where a page comes from
 pub record From (log : List Publication) (e : ℕ) (n : Name) (p : Page) : Type 0 where

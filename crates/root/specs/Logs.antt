@@ -1,8 +1,8 @@
 -- The log of publications, and the pages and tags that it gives. Assumes nothing.
-use Rattle.std.specs.Prelude.{ℕ, ◌+◌, cond, ◌&&◌, List, [], ◌∷◌, ◌++◌, map, length, take, drop, Some, None, fold, Option, nat_le, slice_index_or}
+use Rattle.std.specs.Prelude.{ℕ, ◌+◌, ◌&&◌, List, [], ◌∷◌, ◌++◌, map, length, take, drop, Some, None, fold, Option, if◌then◌else◌, nat_le, slice_index_or}
 use Rattle.std.specs.Option.{option_map}
-use Rattle.std.specs.Str.{bytes_eq}
 use Rattle.names.specs.declared.name.Name.{Name}
+use Rattle.names.specs.Comparing.{same_name}
 use Rattle.zone.specs.declared.rows.Row.{Row}
 use Rattle.zone.specs.Comparing.{same_rows}
 use Rattle.provider.specs.Meaning.{Page}
@@ -36,7 +36,7 @@ at log k = slice_index_or log k nothing
 
 -- the next publication, if it is of the name, else the one at hand
 abbrev pub newer : Name → Option Publication → Publication → Option Publication
-newer n found next = cond (bytes_eq next.name.bytes n.bytes) (Some next) found
+newer n found next = (if same_name next.name n then Some next else found)
 
 -- the latest publication of the name
 abbrev pub latest : Name → List Publication → Option Publication
@@ -48,12 +48,12 @@ page p = record { tag = p.tag; rows = p.rows }
 
 -- the page of a name at edition e, from 1 to the count: that of the latest publication of the name among the first e
 abbrev pub pages : List Publication → ℕ → Name → Option Page
-pages log e n = cond (nat_le 1 e && nat_le e (length log)) (option_map page (latest n (take e log))) None
+pages log e n = (if nat_le 1 e && nat_le e (length log) then option_map page (latest n (take e log)) else None)
 
 -- the tag of rows that are published under a number, after the name's publication before
 abbrev pub tag_after : ℕ → List Row → Option Publication → ℕ
 tag_after number rows None = number
-tag_after number rows (Some p) = cond (same_rows p.rows rows) p.tag number
+tag_after number rows (Some p) = (if same_rows p.rows rows then p.tag else number)
 
 -- the tag of rows that are published next: the tag before if the name has the same rows, else the publication's number
 abbrev pub tag_for : List Publication → Name → List Row → ℕ

@@ -11,15 +11,14 @@ use Rattle.std.proofs.lemmas.Bool.{cases_Bool}
 use Rattle.std.proofs.lemmas.Bool.Decides.{nat_tests}
 use Rattle.std.proofs.lemmas.Cmp.{nat_list_cmp_total, same_from_slice_cmp, tied_itself}
 use Rattle.std.proofs.lemmas.List.Sorted.{searchable_from_sorted}
-use Rattle.std.proofs.lemmas.Slice.Eq.{bytes_eq-Decides}
 use Rattle.names.specs.declared.name.Name.{Name}
 use Rattle.names.specs.Comparing.{before}
-use Rattle.names.proofs.Ordered.{before_never, before_chain}
+use Rattle.names.proofs.Ordered.{before_never, before_chain, same_name_is}
 use Rattle.zone.specs.declared.rows.Interval.{Interval}
 use Rattle.snapshot.specs.declared.zones.Zone.{Zone}
 use Rattle.snapshot.specs.Laws.{Good}
 use Rattle.snapshot.specs.Zones.{is_good, page, page_of}
-use Rattle.snapshot.proofs.Standing.{name_from, snapshots_stand}
+use Rattle.snapshot.proofs.Standing.{snapshots_stand}
 
 -- what the comparison of names tells of their bytes
 lt_told : (a b : List ℕ) → is_lt (slice_cmp nat_cmp a b) ≡ before a b
@@ -49,7 +48,7 @@ module _ (e : ℕ) (span : Interval) (zs : List Zone) (n : Name) (good : is_good
   found : (i : ℕ) → i < length zs → IsBinarySearchResult (against n) zs (Ok i) → (d : Zone) → page_of n zs ≡ Some (page (get_or zs i d))
   found i l b d =
       let same : bytes_eq (get_or zs i d).name.bytes n.bytes ≡ true = sym (eq_told (get_or zs i d).name.bytes n.bytes) ∙ ap is_eq (b d) in
-      let q : (get_or zs i d).name ≡ n = name_from (get_or zs i d).name n ((bytes_eq-Decides (get_or zs i d).name.bytes n.bytes).0 same) in
+      let q : (get_or zs i d).name ≡ n = same_name_is (get_or zs i d).name n same in
       subst (λ (x : Name). page_of x zs ≡ Some (page (get_or zs i d))) q (snapshots_stand.held e span zs stands i d l)
 
   -- a zone on either side of the place has another name

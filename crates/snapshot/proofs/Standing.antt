@@ -1,17 +1,15 @@
 -- The laws of good snapshots. Assumes nothing.
-use Rattle.std.proofs.Common.{◌≡◌, ℕ, zero, suc, ◌<◌, ◌≤◌, Bool, true, false, cond, ◌&&◌, leb, List, [], ◌∷◌, length, get_or, Some, None, Decides, sym, refl, ap, ◌∙◌, inl, inr, arith}
+use Rattle.std.proofs.Common.{◌≡◌, ◌≢◌, ℕ, zero, suc, ◌<◌, ◌≤◌, Bool, true, false, cond, ◌&&◌, leb, List, [], ◌∷◌, length, get_or, Some, None, Decides, sym, refl, ap, ◌∙◌, inl, inr, arith}
 use Rattle.std.specs.List.{AllByRecursion as All}
-use Rattle.std.specs.Str.{bytes_eq}
 use Rattle.std.proofs.ByRecursion.{all_from_every, every_from_all, Decides-by_and}
-use Rattle.std.proofs.lemmas.Slice.Eq.{bytes_eq-Decides}
 use Rattle.std.proofs.lemmas.Bool.{and_parts, cases_Bool}
 use Rattle.std.proofs.lemmas.Bool.Decides.{Decides-like, Decides-and}
 use Rattle.names.specs.declared.name.Name.{Name}
 use Rattle.zone.specs.declared.rows.Interval.{Interval}
-use Rattle.names.specs.Comparing.{before}
+use Rattle.names.specs.Comparing.{before, same_name}
 use Rattle.zone.specs.Intervals.{era, same_interval, within}
 use Rattle.names.specs.Names.{is_name}
-use Rattle.names.proofs.Ordered.{before_never, before_chain}
+use Rattle.names.proofs.Ordered.{before_never, before_chain, same_name_is, same_name_self}
 use Rattle.zone.proofs.Testing.{decides_interval, decides_leb}
 use Rattle.snapshot.specs.declared.zones.Zone.{Zone}
 use Rattle.snapshot.specs.Laws.{Good, SnapshotsStand}
@@ -56,8 +54,9 @@ good_from e i zs w =
 good_to : (e : ℕ) (i : Interval) (zs : List Zone) → Good e i zs → Whole e i zs
 good_to e i zs g = (g.some, (g.in_era, (g.few, (all_from_every (Fit e i) zs (λ k d m l. (g.names k d l, (g.tags k d l, g.windows k d l))), g.order))))
 
-bytes_no : (a b : List ℕ) → (a ≡ b → ⊥) → bytes_eq a b ≡ false
-bytes_no a b n = elim (cases_Bool (bytes_eq a b)) [ inl y ↦ absurd (n ((bytes_eq-Decides a b).0 y)) | inr f ↦ f ]
+-- names that differ are tested so
+named_no : (a b : Name) → (a ≢ b) → same_name a b ≡ false
+named_no a b n = elim (cases_Bool (same_name a b)) [ inl y ↦ absurd (n (same_name_is a b y)) | inr f ↦ f ]
 
 -- the first of names that rise comes before all others
 ahead_all : (z : Zone) (zs : List Zone) → rising (z ∷ zs) ≡ true → (k : ℕ) (d : Zone) → k < length zs → Ahead z (get_or zs k d)
@@ -67,27 +66,24 @@ ahead_all z (y ∷ ys) h (suc k) d l =
     let a = and_parts (before z.name.bytes y.name.bytes) (rising (y ∷ ys)) h in
     before_chain z.name.bytes y.name.bytes (get_or ys k d).name.bytes a.0 (ahead_all y ys a.1 k d (omega arith))
 
-apart : (a b : List ℕ) → before a b ≡ true → a ≡ b → ⊥
+apart : (a b : Name) → before a.bytes b.bytes ≡ true → a ≢ b
 apart a b h q =
-    let s : before a b ≡ false = ap (before a) (sym q) ∙ before_never a in
+    let s : before a.bytes b.bytes ≡ false = ap (λ (x : Name). before a.bytes x.bytes) (sym q) ∙ before_never a.bytes in
     let w : ◌≡◌ {A = Bool} true false = sym h ∙ s in
     let z : ◌≡◌ {A = ℕ} 0 1 = cc in
     omega arith
 
 held_at : (zs : List Zone) → rising zs ≡ true → (k : ℕ) (d : Zone) → k < length zs → page_of (get_or zs k d).name zs ≡ Some (page (get_or zs k d))
 held_at [] h k d l = absurd (omega arith)
-held_at (z ∷ zs) h zero d l = ap (λ b. cond b (Some (page z)) (page_of z.name zs)) ((bytes_eq-Decides z.name.bytes z.name.bytes).1 refl)
+held_at (z ∷ zs) h zero d l = ap (λ b. cond b (Some (page z)) (page_of z.name zs)) (same_name_self z.name)
 held_at (z ∷ zs) h (suc k) d l =
     let n = (get_or zs k d).name in
-    let no = bytes_no z.name.bytes n.bytes (apart z.name.bytes n.bytes (ahead_all z zs h k d (omega arith))) in
+    let no = named_no z.name n (apart z.name n (ahead_all z zs h k d (omega arith))) in
     ap (λ b. cond b (Some (page z)) (page_of n zs)) no ∙ held_at zs (and_parts (before_next z zs) (rising zs) h).1 k d (omega arith)
-
-pub name_from : (a b : Name) → a.bytes ≡ b.bytes → a ≡ b
-name_from a b q = let named : List ℕ → Name = λ bytes. record { bytes = bytes } in ap named q
 
 none_of : (zs : List Zone) (n : Name) → ((k : ℕ) (d : Zone) → k < length zs → (get_or zs k d).name ≡ n → ⊥) → page_of n zs ≡ None
 none_of [] n h = refl
-none_of (z ∷ zs) n h = ap (λ b. cond b (Some (page z)) (page_of n zs)) (bytes_no z.name.bytes n.bytes (λ q. h 0 z (omega arith) (name_from z.name n q))) ∙ none_of zs n (λ k d l. h (suc k) d (omega arith))
+none_of (z ∷ zs) n h = ap (λ b. cond b (Some (page z)) (page_of n zs)) (named_no z.name n (h 0 z (omega arith))) ∙ none_of zs n (λ k d l. h (suc k) d (omega arith))
 
 pub snapshots_stand : SnapshotsStand
 snapshots_stand = record {

@@ -1,9 +1,9 @@
 -- What a snapshot means keeps what a provider's meaning must keep. The lemmas stand here and not in proofs/, since the proof of a law names none of proofs/. Assumes nothing.
 use Rattle.std.specs.Prelude.{◌≡◌, ℕ, ◌≤◌, Bool, true, cond, ◌&&◌, List, [], ◌∷◌, length, Some, None, vec_items, Option, if◌then◌else◌, ◌==◌, nat_le, refl}
 use Rattle.std.proofs.Common.{ap, subst, ◌∙◌, sym, inl, inr, arith}
-use Rattle.std.specs.Str.{bytes_eq}
 use Rattle.std.proofs.lemmas.Bool.{and_parts, cases_Bool, eqb-true, leb-true}
 use Rattle.names.specs.declared.name.Name.{Name}
+use Rattle.names.specs.Comparing.{same_name}
 use Rattle.names.specs.Names.{is_name}
 use Rattle.zone.specs.declared.rows.Interval.{Interval}
 use Rattle.zone.specs.declared.windows.Window.{Window}
@@ -37,9 +37,9 @@ pub page_from : (edition : ℕ) (span : Interval) (n : Name) (zones : List Zone)
 page_from edition span n [] p h q = let w : ◌≡◌ {A = ℕ} 0 1 = cc in absurd (omega arith)
 page_from edition span n (z ∷ zs) p h q =
     let a = and_parts (fits edition span z) (all_fit edition span zs) h in
-    elim (cases_Bool (bytes_eq z.name.bytes n.bytes)) [ inl y ↦ (z, a.0, here y) | inr f ↦ page_from edition span n zs p a.1 (ap (λ b. cond b (Some (page z)) (page_of n zs)) (sym f) ∙ q) ]
+    elim (cases_Bool (same_name z.name n)) [ inl y ↦ (z, a.0, here y) | inr f ↦ page_from edition span n zs p a.1 (ap (λ b. cond b (Some (page z)) (page_of n zs)) (sym f) ∙ q) ]
   where
-    here : bytes_eq z.name.bytes n.bytes ≡ true → page z ≡ p
+    here : same_name z.name n ≡ true → page z ≡ p
     here y = let s : Some (page z) ≡ Some p = ap (λ b. cond b (Some (page z)) (page_of n zs)) (sym y) ∙ q in cc
 
 -- the facts of a zone that fits

@@ -1,10 +1,9 @@
 -- When zones make a good snapshot, and the page that they have of a name. Assumes nothing.
 use Rattle.std.specs.Prelude.{ℕ, Bool, true, ◌&&◌, List, [], ◌∷◌, length, Some, None, Option, if◌then◌else◌, nat_le}
 use Rattle.std.specs.List.{list_all}
-use Rattle.std.specs.Str.{bytes_eq}
 use Rattle.names.specs.declared.name.Name.{Name}
 use Rattle.zone.specs.declared.rows.Interval.{Interval}
-use Rattle.names.specs.Comparing.{before}
+use Rattle.names.specs.Comparing.{before, same_name}
 use Rattle.zone.specs.Intervals.{era, same_interval, within}
 use Rattle.names.specs.Names.{is_name}
 use Rattle.provider.specs.Meaning.{Page}
@@ -43,4 +42,4 @@ page z = record { tag = z.tag; rows = z.window.rows.items }
 -- the page of the zone with the name
 abbrev pub page_of : Name → List Zone → Option Page
 page_of n [] = None
-page_of n (z ∷ zs) = (if bytes_eq z.name.bytes n.bytes then Some (page z) else page_of n zs)
+page_of n (z ∷ zs) = (if same_name z.name n then Some (page z) else page_of n zs)

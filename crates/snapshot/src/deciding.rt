@@ -11,41 +11,43 @@ use zone::rows::Interval;
 /// The most zones of a snapshot.
 pub const MOST_ZONES: usize = 64;
 
-// Whether the zone's tag is from 1 to the edition.
-fn is_tagged(zone: &Zone, edition: Edition) -> bool
-    ensures { result ≡ (nat_le 1 zone.now.tag && nat_le zone.now.tag edition) }
-{
-    1 <= zone.tag && zone.tag <= edition
-}
+impl Zone {
+    // Whether its tag is from 1 to the edition.
+    fn is_tagged(&self, edition: Edition) -> bool
+        ensures { result ≡ (nat_le 1 self.now.tag && nat_le self.now.tag edition) }
+    {
+        1 <= self.tag && self.tag <= edition
+    }
 
-// Whether the zone has a valid name, a tag from 1 to the edition, and a window exactly over the span.
-#[tactic(auto, using(crate::proofs::Fitting::same_int))]
-fn does_fit(zone: &Zone, edition: Edition, span: Interval) -> bool
-    ensures { result ≡ fits edition span zone.now }
-{
-    zone.name.is_valid() && is_tagged(zone, edition) && zone.window.interval == span
+    // Whether it has a valid name, a tag from 1 to the edition, and a window exactly over the span.
+    #[tactic(auto, using(crate::proofs::Fitting::same_int))]
+    fn does_fit(&self, edition: Edition, span: Interval) -> bool
+        ensures { result ≡ fits edition span self.now }
+    {
+        self.name.is_valid() && self.is_tagged(edition) && self.window.interval == span
+    }
+
+    // Whether its name comes strictly before that of the next one.
+    #[tactic(auto, using(names::proofs::Ordered::before_told))]
+    fn is_ahead(&self, next: &Zone) -> bool
+        ensures { result ≡ before self.now.name.bytes next.now.name.bytes }
+    {
+        self.name < next.name
+    }
 }
 
 // Whether all zones do.
 fn do_fit(zones: &[Zone], edition: Edition, span: Interval) -> bool
     ensures { result ≡ all_fit edition span zones.now }
 {
-    zones.iter().all(|zone| does_fit(zone, edition, span))
-}
-
-// Whether the name of the first zone comes strictly before that of the other.
-#[tactic(auto, using(names::proofs::Ordered::before_told))]
-fn is_ahead(zone: &Zone, next: &Zone) -> bool
-    ensures { result ≡ before zone.now.name.bytes next.now.name.bytes }
-{
-    zone.name < next.name
+    zones.iter().all(|zone| zone.does_fit(edition, span))
 }
 
 // Whether the names rise strictly in byte order.
 fn do_rise(zones: &[Zone]) -> bool
     ensures { result ≡ rising zones.now }
 {
-    zones.is_sorted_by(is_ahead)
+    zones.is_sorted_by(Zone::is_ahead)
 }
 
 // Whether these make a good snapshot.
