@@ -22,9 +22,10 @@ pub(crate) struct Slot {
     pub(crate) window: Window,
 }
 
-/// Sixteen slots.
+/// Sixteen slots, and the floor: the highest edition accepted so far. The slots are a vector, since of an array's element that is lent the check proves no clause.
 #[derive(Drop)]
 pub struct Slots {
     pub(crate) slots: Vec<Slot>,
+    pub(crate) floor: Edition,
     ghost all: { vec_len slots ≡ 16 },
 }

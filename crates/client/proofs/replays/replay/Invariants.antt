@@ -1,9 +1,8 @@
 use Rattle.std.proofs.Common.{◌≡◌, ◌≤◌, map, length, take, vec_items, vec_len, vec_capacity}
 use Rattle.history.specs.Sources.{source}
 use Rattle.history.proofs.Going.{Going}
-use Rattle.client.specs.Following.{ClientInOrder}
+use Rattle.client.specs.Following.{ClientInOrder, state_in}
 use Rattle.client.specs.Listing.{call_of, report_of, Matches}
-use Rattle.slots.specs.Seeing.{state_of}
 use Rattle.client.proofs.replays.replay.Given as goal
 
 abbrev pub invariant-loop-call : goal.invariant-loop-call
@@ -11,6 +10,6 @@ invariant-loop-call g l =
     (vec_len l.outcomes ≡ l.call-index)
     × (length l.calls ≤ vec_capacity l.outcomes)
     × (g.P.Provider.in_order l.initial.session.client.provider
-    → ClientInOrder g.P.Provider l.session.client.provider (state_of l.session.client.slots l.session.client.floor)
-    × Matches (vec_items l.session.tokens) (state_of l.session.client.slots l.session.client.floor)
-    × Going (source g.P.Provider) l.initial.session.client.provider l.session.client.provider (map call_of (take l.call-index l.calls)) (map report_of (vec_items l.outcomes)) (state_of l.session.client.slots l.session.client.floor))
+    → ClientInOrder g.P.Provider l.session.client.provider (state_in l.session.client)
+    × Matches (vec_items l.session.tokens) (state_in l.session.client)
+    × Going (source g.P.Provider) l.initial.session.client.provider l.session.client.provider (map call_of (take l.call-index l.calls)) (map report_of (vec_items l.outcomes)) (state_in l.session.client))
