@@ -1,5 +1,5 @@
 -- Listed calls and outcomes as calls and reports of the rules, and the pending fetches of a session. Assumes nothing.
-use Rattle.std.specs.Prelude.{◌≡◌, ℕ, ◌<◌, List, Some, None, Option, slice_index_or, slice_set}
+use Rattle.std.specs.Prelude.{◌≡◌, ℕ, ◌<◌, false, List, Some, None, Option, slice_index_or, slice_set}
 use Rattle.std.specs.Option.{option_map}
 use Rattle.zone.specs.declared.rows.Interval.{Interval}
 use Rattle.zone.specs.Refusals.{number, values}
@@ -63,7 +63,7 @@ without tokens (Some k) = slice_set tokens k None
 -- the client of a session is in order, and its pending fetches are at hand
 pub record SessionInOrder {S : Type 0} (g : Ghosts S) (session : Session S) : Type 0 where
   pub client : InOrder g session.client
-  pub tokens : Matches session.tokens (state_in session.client)
+  pub tokens : Matches session.tokens.items (state_in session.client)
 
 -- what one call of a list comes to, by what the provider says of its states
 pub record Performed {S : Type 0} (g : Ghosts S) (src : Source S) (call : rules.Call) (before after : S) (s s' : State) (tokens' : List (Option PendingFetch)) (r : rules.Report) : Type 0 where
@@ -75,4 +75,4 @@ pub record Performed {S : Type 0} (g : Ghosts S) (src : Source S) (call : rules.
 
 -- a session performs the call, over a provider in order that its client agrees with
 abbrev pub Performs : {S : Type 0} → Ghosts S → Source S → rules.Call → Session S → Session S → rules.Report → Type 0
-Performs g src call before after r = SessionInOrder g before → Performed g src call before.client.provider after.client.provider (state_in before.client) (state_in after.client) after.tokens r
+Performs g src call before after r = SessionInOrder g before → Performed g src call before.client.provider after.client.provider (state_in before.client) (state_in after.client) after.tokens.items r

@@ -9,3 +9,4 @@ mod performing;
 pub mod posting;
 pub mod replays;
 mod sessions;
+mod tokens;

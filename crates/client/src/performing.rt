@@ -31,7 +31,7 @@ impl<P: Provider> Session<P> {
     fn hand_back(&mut self, refusal: Refusal, slot: usize, back: PendingFetch) -> Outcome
         requires { slot < 16 }
         ensures told { report_of result ≡ handed_back (number refusal) (values refusal) slot back.interval }
-        ensures tokens { self.new.tokens ≡ slice_set self.old.tokens slot (Some back) }
+        ensures tokens { self.new.tokens.items ≡ slice_set self.old.tokens.items slot (Some back) }
         ensures client { self.new.client ≡ self.old.client }
     {
         let interval = back.interval;

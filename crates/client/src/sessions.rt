@@ -1,71 +1,12 @@
 // A client with the pending fetches of a list of calls.
-ghost use Rattle.std.specs.Prelude.{◌≡◌, ◌<◌, replicate, IfSome, IfOk, Some, None, slice_set};
-ghost use Rattle.history.specs.Cells.{new_client, place_of};
-ghost use Rattle.client.specs.Following.{state_in};
-ghost use Rattle.client.specs.Listing.{token_at, without};
+ghost use Rattle.std.specs.Prelude.{◌≡◌, vec_len};
 
 use super::clients::Client;
 use super::pending::PendingFetch;
-use names::name::Name;
-use provider::providers::Provider;
-use slots::table::SLOTS;
-use std::alloc::{AllocError, Global};
-use std::array;
 
 // The client, and the pending fetch of each slot.
 pub(crate) struct Session<P> {
     pub(crate) client: Client<P>,
-    pub(crate) tokens: [Option<PendingFetch>; SLOTS],
-}
-
-impl<P: Provider> Session<P> {
-    // A new client with nothing pending.
-    pub(crate) fn new(heap: Global, provider: P) -> Result<Session<P>, AllocError>
-    where
-        P: Drop,
-        ensures { IfOk result (λ s. (s.client.provider ≡ provider) × (state_in s.client ≡ new_client) × (s.tokens ≡ replicate 16 None)) }
-    {
-        Ok(Session {
-            client: Client::new(heap, provider)?,
-            tokens: array::from_fn(|_| None),
-        })
-    }
-
-    // Abandons what is pending, and gives the provider back.
-    pub(crate) fn close(self) -> P
-        ensures { result ≡ self.client.provider }
-    {
-        let Session { mut client, tokens } = self;
-        for held in tokens {
-            if let Some(pending) = held {
-                if let Err((_, back)) = client.abandon(pending) {
-                    back.end();
-                }
-            }
-        }
-        client.into_provider()
-    }
-
-    // Takes the zone's pending fetch, and answers its slot.
-    pub(crate) fn take(&mut self, name: &Name) -> Option<(usize, PendingFetch)>
-        ensures taken { result ≡ token_at self.old.tokens (place_of (state_in self.old.client) name.now) }
-        ensures within { IfSome result (λ p. p.0 < 16) }
-        ensures tokens { self.new.tokens ≡ without self.old.tokens (place_of (state_in self.old.client) name.now) }
-        ensures client { self.new.client ≡ self.old.client }
-    {
-        let slot = self.client.slots.find(name)?;
-        let pending = self.tokens[slot].take()?;
-        Some((slot, pending))
-    }
-
-    // Keeps the pending fetch of a slot; no client waits for one that stood there.
-    pub(crate) fn keep(&mut self, slot: usize, pending: PendingFetch)
-        requires { slot < 16 }
-        ensures tokens { self.new.tokens ≡ slice_set self.old.tokens slot (Some pending) }
-        ensures client { self.new.client ≡ self.old.client }
-    {
-        if let Some(other) = self.tokens[slot].replace(pending) {
-            other.end();
-        }
-    }
+    pub(crate) tokens: Vec<Option<PendingFetch>>,
+    ghost all: { vec_len tokens ≡ 16 },
 }
