@@ -62,7 +62,7 @@ fn ends_of_the_era(rt: HostRuntime) -> Result<(), Fail> {
         };
         let before = window.interval;
         let interval = Interval { start, end };
-        assert_eq!(rt; window.fill(interval, &[row]), valid);
+        assert_eq!(rt; window.fill(interval, &[row]).is_ok(), valid);
         assert_eq!(rt; window.interval, if valid { interval } else { before });
     }
     Ok(())
