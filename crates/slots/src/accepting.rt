@@ -21,8 +21,7 @@ impl Slot {
     fn is_pending(&self, interval: Interval) -> bool
         ensures { result ≡ is_pending (cell_of self.now).pending interval }
     {
-        self.pending
-            .is_some_and(|pending| pending.is_same(interval))
+        self.pending.is_some_and(|pending| pending == interval)
     }
 
     // The version of what the slot holds, if that contains the interval.

@@ -41,7 +41,7 @@ impl Slot {
     fn is_owned_by(&self, name: &Name) -> bool
         ensures { result ≡ owned_by name.now (cell_of self.now) }
     {
-        self.owner.is_some_and(|owner| owner.same(name))
+        self.owner.is_some_and(|owner| owner == *name)
     }
 }
 
