@@ -3,6 +3,7 @@
 
 pub mod calls;
 pub mod clients;
+mod items;
 pub mod listing;
 pub mod pending;
 mod performing;

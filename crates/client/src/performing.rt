@@ -1,8 +1,8 @@
 // One call of a list.
 ghost use Rattle.std.specs.Prelude.{◌≡◌, ◌<◌, Some, slice_set};
 ghost use Rattle.zone.specs.Refusals.{number, values};
-ghost use Rattle.history.specs.Sources.{source};
-ghost use Rattle.history.specs.Steps.{abandon, begin, collect, forget, handed_back, query};
+ghost use Rattle.history.specs.Sources.{publishing_source, source};
+ghost use Rattle.history.specs.Steps.{abandon, begin, collect, forget, handed_back, publish, query};
 ghost use Rattle.client.specs.Listing.{call_of, Performs, report_of};
 
 use super::listing::{Call, Outcome};
@@ -10,8 +10,10 @@ use super::pending::PendingFetch;
 use super::sessions::Session;
 use names::name::Name;
 use provider::providers::Provider;
+use provider::publishing::Publishing;
 use zone::refusals::Refusal;
 use zone::rows::{Instant, Interval};
+use zone::windows::Table;
 
 impl<P: Provider> Session<P> {
     fn begin(&mut self, name: Name, interval: Interval) -> Outcome
@@ -95,6 +97,17 @@ impl<P: Provider> Session<P> {
             Call::Abandon { name } => self.abandon(name),
             Call::Forget { name } => self.forget(name),
             Call::Query { name, at } => self.query(name, at),
+        }
+    }
+}
+
+impl<P: Publishing> Session<P> {
+    pub(crate) fn publish(&mut self, name: Name, table: &Table) -> Outcome
+        ensures { Performs P.Provider (publishing_source P.Provider P.Publishing.own) (publish name table.now) self.old self.new (report_of result) }
+    {
+        match self.client.publish(name, table) {
+            Ok(edition) => Outcome::Published { edition },
+            Err(refusal) => Outcome::Refused { refusal },
         }
     }
 }
