@@ -1,8 +1,8 @@
 -- The client's slots as the cells of its rules. Assumes nothing.
 use Rattle.std.specs.Prelude.{List, map, Some, None, Option}
 use Rattle.zone.specs.declared.windows.Window.{Window}
+use Rattle.provider.specs.declared.requests.Version.{Version}
 use Rattle.history.specs.Cells.{Copy, Cell, State}
-use Rattle.slots.specs.declared.slot.Version.{Version}
 use Rattle.slots.specs.declared.slot.Slot.{Slot}
 use Rattle.slots.specs.declared.slot.Slots.{Slots}
 

@@ -1,17 +1,16 @@
 // What a collect or an abandon does to a slot.
-ghost use Rattle.std.specs.Prelude.{◌≡◌, Some, None, Ok, slice_index_or};
-ghost use Rattle.provider.specs.declared.requests.Reply.TheVariants.{Fresh, Unchanged};
+ghost use Rattle.std.specs.Prelude.{◌≡◌, if◌then◌else◌, Some, None, slice_index_or};
 ghost use Rattle.history.specs.Cells.{free};
 ghost use Rattle.history.specs.Steps.{unmarked};
 ghost use Rattle.slots.specs.Seeing.{cell_of, copy_of, cells_of, state_of};
-ghost use Rattle.slots.specs.Taking.{floored, received, take_reply, taken_report};
+ghost use Rattle.slots.specs.Taking.{can_renew, floored, received, renewal, taken_report};
 ghost use Rattle.slots.specs.Told.{abandon_token, ComesTo, covering, is_pending, request_for, token_report};
 ghost use Rattle.slots.specs.Turning.{Accepts, TurnsTo};
 
-use super::slot::{Slot, Slots, Version};
+use super::slot::{Slot, Slots};
 use super::table::SLOTS;
 use cutting::cuts::cut_window;
-use provider::requests::{Edition, Reply, Request, Tag};
+use provider::requests::{Edition, Reply, Request, Version};
 use zone::refusals::Refusal;
 use zone::rows::Interval;
 use zone::windows::Window;
@@ -69,42 +68,16 @@ impl Slot {
         self.pending = None;
     }
 
-    // The provider answered that what the slot holds is still good: its cut to the interval becomes what the slot holds, from this edition. No answer came where it does not contain the interval.
-    fn take_unchanged(
-        &mut self,
-        interval: Interval,
-        edition: Edition,
-        floor: Edition,
-        spare: &mut Window,
-    ) -> Result<Edition, Refusal>
-        ensures { Accepts (λ s k. take_reply s k interval (Ok (Unchanged edition)) spare.old) result interval floor (cell_of self.old) (cell_of self.new) }
+    // What the slot holds is still good: its cut to the interval becomes what the slot holds, from this edition. None, and nothing done, where it does not contain the interval.
+    #[tactic(auto, using(provider::proofs::Pages::window_cut))]
+    fn renew(&mut self, interval: Interval, edition: Edition, spare: &mut Window) -> Option<Edition>
+        ensures told { result ≡ (if can_renew interval (cell_of self.old).copy then Some edition else None) }
+        ensures after { cell_of self.new ≡ renewal interval edition (cell_of self.old) (cell_of self.old).copy }
     {
-        if edition < floor {
-            return Err(Refusal::BelowFloor { edition });
-        }
-        let tag = self.held_over(interval).ok_or(Refusal::Silent)?.tag;
-        let _ = cut_window(&self.window, interval, spare);
-        self.install(Version { edition, tag }, spare);
-        Ok(edition)
-    }
-
-    // The provider filled the window, which becomes what the slot holds.
-    fn take_fresh(
-        &mut self,
-        interval: Interval,
-        version: Version,
-        floor: Edition,
-        spare: &mut Window,
-    ) -> Result<Edition, Refusal>
-        ensures { Accepts (λ s k. take_reply s k interval (Ok (Fresh version.edition version.tag)) spare.old) result interval floor (cell_of self.old) (cell_of self.new) }
-    {
-        if version.edition < floor {
-            return Err(Refusal::BelowFloor {
-                edition: version.edition,
-            });
-        }
-        self.install(version, spare);
-        Ok(version.edition)
+        let held = self.held_over(interval)?;
+        cut_window(&self.window, interval, spare).unwrap();
+        self.install(Version { edition, ..held }, spare);
+        Some(edition)
     }
 
     // Puts the window in the slot in the place of the slot's own, which it gets, under a version.
@@ -116,7 +89,7 @@ impl Slot {
         self.pending = None;
     }
 
-    // What the provider replied to the slot's request: 10 where the slot is not pending with the interval.
+    // What the provider replied to the slot's request, with what it left in the window: the edition that the slot holds from now on, not below the floor. 10 where the slot is not pending with the interval.
     fn receive(
         &mut self,
         interval: Interval,
@@ -131,15 +104,16 @@ impl Slot {
         }
         match reply {
             Err(refusal) => Err(floored_by(floor, refusal)),
-            Ok(Reply::Unchanged { edition }) => self.take_unchanged(
-                interval, edition, floor, spare,
-            ),
-            Ok(Reply::Fresh { edition, tag }) => self.take_fresh(
-                interval,
-                Version { edition, tag },
-                floor,
-                spare,
-            ),
+            Ok(Reply::Unchanged { edition } | Reply::Fresh { edition, .. }) if edition < floor => {
+                Err(Refusal::BelowFloor { edition })
+            }
+            Ok(Reply::Unchanged { edition }) => {
+                self.renew(interval, edition, spare).ok_or(Refusal::Silent)
+            }
+            Ok(Reply::Fresh { edition, tag }) => {
+                self.install(Version { edition, tag }, spare);
+                Ok(edition)
+            }
         }
     }
 }
