@@ -1,9 +1,7 @@
 -- Listed calls and outcomes as calls and reports of the rules, and the pending fetches of a session. Assumes nothing.
-use Rattle.std.specs.Prelude.{◌≡◌, ℕ, ◌<◌, Bool, false, List, Some, None, Option, slice_index_or, slice_set}
+use Rattle.std.specs.Prelude.{◌≡◌, ℕ, ◌<◌, false, List, Some, None, Option, slice_index_or, slice_set}
 use Rattle.std.specs.Option.{option_map}
-use Rattle.names.specs.declared.name.Name.{Name}
 use Rattle.zone.specs.declared.rows.Interval.{Interval}
-use Rattle.zone.specs.declared.windows.Table.{Table}
 use Rattle.zone.specs.Refusals.{number, values}
 use Rattle.provider.specs.declared.providers.Provider.{Ghosts}
 use Rattle.provider.specs.Meaning.{Keeps}
@@ -66,10 +64,6 @@ without tokens (Some k) = slice_set tokens k None
 pub record SessionInOrder {S : Type 0} (g : Ghosts S) (session : Session S) : Type 0 where
   pub client : InOrder g session.client
   pub tokens : Matches session.tokens.items (state_in session.client)
-
--- the source of a history over a provider, by what it says of publications
-abbrev pub source_of : {S : Type 0} → Ghosts S → (S → ℕ → Bool) → (S → Name → Table → S → Type 0) → Source S
-source_of g fits after_publish = record { meaning = meaning g; in_order = g.in_order; after_fetch = g.after_fetch; fits = fits; after_publish = after_publish }
 
 -- what one call of a list comes to, by what the provider says of its states
 pub record Performed {S : Type 0} (g : Ghosts S) (src : Source S) (call : rules.Call) (before after : S) (s s' : State) (tokens' : List (Option PendingFetch)) (r : rules.Report) : Type 0 where

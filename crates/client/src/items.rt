@@ -2,8 +2,9 @@
 ghost use Rattle.std.specs.Prelude.{ℕ, Bool, false};
 ghost use Rattle.names.specs.declared.name.Name.{Name};
 ghost use Rattle.zone.specs.declared.windows.Table.{Table};
+ghost use Rattle.history.specs.Sources.{source_of};
 ghost use Rattle.history.specs.Steps.{Call as Rule};
-ghost use Rattle.client.specs.Listing.{call_of, entry_of, Performs, report_of, source_of};
+ghost use Rattle.client.specs.Listing.{call_of, entry_of, Performs, report_of};
 
 use super::listing::{Call, Entry, Outcome};
 use super::sessions::Session;

@@ -1,8 +1,8 @@
 // Any list of calls on a new client over any provider.
 ghost use Rattle.std.specs.Prelude.{map, IfOk};
 ghost use Rattle.history.specs.Promises.{HistoriesStand, Replayed};
-ghost use Rattle.history.specs.Sources.{publishing_source, source};
-ghost use Rattle.client.specs.Listing.{call_of, entry_of, report_of, source_of};
+ghost use Rattle.history.specs.Sources.{publishing_source, source, source_of};
+ghost use Rattle.client.specs.Listing.{call_of, entry_of, report_of};
 
 use super::items::Item;
 use super::listing::{Call, Entry, Outcome};

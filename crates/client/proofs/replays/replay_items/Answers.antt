@@ -3,11 +3,12 @@ use Rattle.std.proofs.lemmas.List.{take_all}
 use Rattle.std.proofs.lemmas.Result.{IfOk-from_err}
 use Rattle.provider.specs.Whole.{meaning}
 use Rattle.history.specs.Promises.{Replayed}
+use Rattle.history.specs.Sources.{source_of}
 use Rattle.history.proofs.Going.{going_ends}
 use Rattle.history.proofs.Promising.{histories_stand}
 use Rattle.client.specs.Following.{state_in}
-use Rattle.client.specs.Listing.{report_of, source_of}
-use Rattle.client.proofs.Starting.{agrees_new, matches_new, starts, goes_on_item}
+use Rattle.client.specs.Listing.{report_of}
+use Rattle.client.proofs.Starting.{agrees_new, matches_new, starts, goes_on}
 use Rattle.client.proofs.replays.replay_items.Goals as goal
 
 pub returns-in_err-outcomes : goal.returns-in_err-outcomes
@@ -35,7 +36,7 @@ loop-item-preserved g c =
           let did = c.make-outcome.ensures was.0 in
           let sound = g.met.P.Provider.sound before.provider was.0.client.order in (
             record { client = did.order; tokens = did.matches },
-            goes_on_item (source_of g.P.Provider g.I.Item.fits g.I.Item.after_publish) _ before.provider after.provider g.I.Item.call report_of c.args.items.now c.loop-item.outcomes.items c.push_reserved.new.self.items c.loop-item.item-index c.item-item.result c.make-outcome.result (state_in before) (state_in after) c.loop-item-test.true c.item-item.is c.push_reserved.ensures.items
+            goes_on (source_of g.P.Provider g.I.Item.fits g.I.Item.after_publish) _ before.provider after.provider g.I.Item.call report_of c.args.items.now c.loop-item.outcomes.items c.push_reserved.new.self.items c.loop-item.item-index c.item-item.result c.make-outcome.result (state_in before) (state_in after) c.loop-item-test.true c.item-item.is c.push_reserved.ensures.items
                 (record { order = was.0.client.order; sound = sound; moves = did.moves; keeps = did.keeps; told = did.told }) was.1,
           ),
     )

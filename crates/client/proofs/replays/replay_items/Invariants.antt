@@ -1,7 +1,8 @@
 use Rattle.std.proofs.Common.{◌≡◌, ◌≤◌, map, length, take, vec_len, vec_capacity}
+use Rattle.history.specs.Sources.{source_of}
 use Rattle.history.proofs.Going.{Going}
 use Rattle.client.specs.Following.{state_in}
-use Rattle.client.specs.Listing.{report_of, SessionInOrder, source_of}
+use Rattle.client.specs.Listing.{report_of, SessionInOrder}
 use Rattle.client.proofs.replays.replay_items.Given as goal
 
 abbrev pub invariant-loop-item : goal.invariant-loop-item
