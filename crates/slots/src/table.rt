@@ -57,7 +57,7 @@ impl Slots {
         })
     }
 
-    // Lends the slot at a place to be changed; no other slot changes.
+    // Lends the slot at a place to be changed; no other slot changes. A place is a plain number, as callers have it: a search answers one, and a call takes any.
     pub(crate) fn slot_mut(&mut self, i: usize) -> &mut Slot
         requires { i < 16 }
         ensures* follows { sem 𝓛 (follows slots_row slot_row self.entry.ghost_name result.ghost_name (λ w. record { slots = with_item self.old.slots i w; floor = self.old.floor; all = self.old.all })) }
