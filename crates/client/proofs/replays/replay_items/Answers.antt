@@ -23,23 +23,28 @@ loop-item-init g c =
     let new = c.in_ok-session.ensures in
     let s = state_in session.client in
     let made = c.in_ok-outcomes.ensures in
-    (made.len, made.capacity, λ o. (record { client = record { order = o; agrees = agrees_new (meaning g.P.Provider session.client.provider) s new.1 }; tokens = matches_new session.tokens.items s new.2 new.1 }, starts (source_of g.P.Provider g.I.Item.fits g.I.Item.after_publish) session.client.provider s (map report_of c.in_ok-outcomes.outcomes.items) new.1 (ap (map report_of) made.items)))
+    record {
+      filled = made.len;
+      room = made.capacity;
+      going = λ o. (record { client = record { order = o; agrees = agrees_new (meaning g.P.Provider session.client.provider) s new.1 }; tokens = matches_new session.tokens.items s new.2 new.1 }, starts (source_of g.P.Provider g.I.Item.fits g.I.Item.after_publish) session.client.provider s (map report_of c.in_ok-outcomes.outcomes.items) new.1 (ap (map report_of) made.items));
+    }
 
 pub loop-item-preserved : goal.loop-item-preserved
 loop-item-preserved g c =
     let before = c.loop-item.session.client in
-    let after = c.make-outcome.new.session.client in (
-      omega arith,
-      omega (arith, c.push_reserved.ensures.capacity),
-      λ o.
-          let was = c.loop-item.invariant.2 o in
+    let after = c.make-outcome.new.session.client in
+    record {
+      filled = omega arith;
+      room = omega (arith, c.push_reserved.ensures.capacity);
+      going = λ o.
+          let was = c.loop-item.invariant.going o in
           let did = c.make-outcome.ensures was.0 in
           let sound = g.met.P.Provider.sound before.provider was.0.client.order in (
             record { client = did.order; tokens = did.matches },
             goes_on (source_of g.P.Provider g.I.Item.fits g.I.Item.after_publish) _ before.provider after.provider g.I.Item.call report_of c.args.items.now c.loop-item.outcomes.items c.push_reserved.new.self.items c.loop-item.item-index c.item-item.result c.make-outcome.result (state_in before) (state_in after) c.loop-item-test.true c.item-item.is c.push_reserved.ensures.items
                 (record { order = was.0.client.order; sound = sound; moves = did.moves; keeps = did.keeps; told = did.told }) was.1,
-          ),
-    )
+          );
+    }
 
 pub returns : goal.returns
 returns g c =
@@ -52,7 +57,7 @@ returns g c =
     record {
       replayed = λ o.
           let o' = subst g.P.Provider.in_order (sym new.0) o in
-          let was = c.loop-item.invariant.2 o' in
+          let was = c.loop-item.invariant.going o' in
           subst (λ (b : g.row.P.Denot). Replayed src b c.close.result calls reports) new.0
           (going_ends src first.provider last.provider c.close.result _ calls _ reports (state_in last) (ap (map g.I.Item.call) (take_all c.loop-item.item-index c.args.items.now c.loop-item-test.false)) refl (sym c.close.ensures) was.1);
       every = histories_stand _ _;
