@@ -25,13 +25,8 @@ matches_new tokens s t q k l = ap (λ x. get_or x k None) t ∙ same_everywhere 
 pub starts : {S : Type 0} (src : Source S) (first : S) (s : State) (reports : List Report) → s ≡ new_client → reports ≡ [] → Going src first first [] reports s
 starts src first s reports q r = subst (λ x. Going src first first [] x s) (sym r) (subst (Going src first first [] []) (sym q) (going_begins src first))
 
-pub goes_on : {S X Y : Type 0} (src : Source S) (first before after : S) (call_of : X → Call) (report_of : Y → Report) (calls : List X) (outcomes outcomes' : List Y) (i : ℕ) (d : X) (y : Y) (s s' : State) → i < length calls → outcomes' ≡ outcomes ++ (y ∷ []) → Goes src before after (call_of (get_or calls i d)) (report_of y) s s' → Going src first before (map call_of (take i calls)) (map report_of outcomes) s → Going src first after (map call_of (take (i + 1) calls)) (map report_of outcomes') s'
-goes_on src first before after call_of report_of calls outcomes outcomes' i d y s s' l push goes g =
-    let more = map_more call_of calls i d l in
+pub goes_on : {S X Y : Type 0} (src : Source S) (first before after : S) (call_of : X → Call) (report_of : Y → Report) (calls : List X) (outcomes outcomes' : List Y) (i : ℕ) (x : X) (y : Y) (s s' : State) → i < length calls → x ≡ get_or calls i x → outcomes' ≡ outcomes ++ (y ∷ []) → Goes src before after (call_of x) (report_of y) s s' → Going src first before (map call_of (take i calls)) (map report_of outcomes) s → Going src first after (map call_of (take (i + 1) calls)) (map report_of outcomes') s'
+goes_on src first before after call_of report_of calls outcomes outcomes' i x y s s' l is push goes g =
+    let more = map_more call_of calls i x l ∙ ap (λ z. map call_of (take i calls) ++ (call_of z ∷ [])) (sym is) in
     let told = ap (map report_of) push ∙ map_push report_of outcomes y in
-    subst (λ x. Going src first after x (map report_of outcomes') s') (sym more) (subst (λ x. Going src first after (map call_of (take i calls) ++ (call_of (get_or calls i d) ∷ [])) x s') (sym told) (going_goes src first before after (map call_of (take i calls)) (map report_of outcomes) (call_of (get_or calls i d)) (report_of y) s s' goes g))
-
--- the same, where the call is read from the list
-pub goes_on_item : {S X Y : Type 0} (src : Source S) (first before after : S) (call_of : X → Call) (report_of : Y → Report) (calls : List X) (outcomes outcomes' : List Y) (i : ℕ) (x : X) (y : Y) (s s' : State) → i < length calls → x ≡ get_or calls i x → outcomes' ≡ outcomes ++ (y ∷ []) → Goes src before after (call_of x) (report_of y) s s' → Going src first before (map call_of (take i calls)) (map report_of outcomes) s → Going src first after (map call_of (take (i + 1) calls)) (map report_of outcomes') s'
-goes_on_item src first before after call_of report_of calls outcomes outcomes' i x y s s' l is push goes g =
-    goes_on src first before after call_of report_of calls outcomes outcomes' i x y s s' l push (subst (λ z. Goes src before after (call_of z) (report_of y) s s') is goes) g
+    subst (λ z. Going src first after z (map report_of outcomes') s') (sym more) (subst (λ z. Going src first after (map call_of (take i calls) ++ (call_of x ∷ [])) z s') (sym told) (going_goes src first before after (map call_of (take i calls)) (map report_of outcomes) (call_of x) (report_of y) s s' goes g))

@@ -10,7 +10,7 @@ pub fn histories_stand<P: Provider>(provider: &P)
     ensures { HistoriesStand (source P.Provider) provider.now }
 {}
 
-/// The same with publications.
+/// The same with publications. A law of its own, since it is the bound that says what a provider's publications do; one lemma proves both.
 pub fn publishing_histories_stand<P: Publishing>(provider: &P)
     ensures { HistoriesStand (publishing_source P.Provider P.Publishing.own) provider.now }
 {}
