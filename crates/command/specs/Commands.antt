@@ -1,5 +1,6 @@
 -- The commands that lines spell. Assumes nothing.
-use Rattle.std.specs.Prelude.{ℕ, Bool, cond, not, ◌&&◌, List, length, Some, None, codes, Option, ◌==◌, slice_index}
+use denote.Ref.{Bor}
+use Rattle.std.specs.Prelude.{◌≡◌, ℕ, false, [], MatchOption, Bool, cond, not, ◌&&◌, List, length, Some, None, codes, Option, ◌==◌, slice_index}
 use Rattle.std.specs.Option.{option_map}
 use Rattle.std.specs.Str.{bytes_eq}
 use Rattle.names.specs.declared.name.Name.{Name}
@@ -25,6 +26,10 @@ bind (Some x) f = f x
 -- there is no word
 abbrev pub blank : List ℕ → Bool
 blank line = length (trimmed line) == 0
+
+-- a word was read, and left the words after it; or there was none
+abbrev pub NextWord : List ℕ → Option (Bor (List ℕ)) → List ℕ → Type 0
+NextWord line next left = MatchOption next (trimmed line ≡ []) (λ first. (blank line ≡ false) × (first.now ≡ word line) × (left ≡ rest line))
 
 -- there is one word
 abbrev pub is_lone : List ℕ → Bool
