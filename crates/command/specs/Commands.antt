@@ -27,9 +27,9 @@ bind (Some x) f = f x
 abbrev pub blank : List ℕ → Bool
 blank line = length (trimmed line) == 0
 
--- a word was read, and left the words after it; or there was none
+-- a word was read, and what stands after it is left; or there was none, and the line stays as it is
 abbrev pub NextWord : List ℕ → Option (Bor (List ℕ)) → List ℕ → Type 0
-NextWord line next left = MatchOption next (trimmed line ≡ []) (λ first. (blank line ≡ false) × (first.now ≡ word line) × (left ≡ rest line))
+NextWord line next left = MatchOption next ((trimmed line ≡ []) × (left ≡ line)) (λ first. (blank line ≡ false) × (first.now ≡ word line) × (left ≡ rest line))
 
 -- there is one word
 abbrev pub is_lone : List ℕ → Bool
