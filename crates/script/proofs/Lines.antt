@@ -1,13 +1,14 @@
 -- Lemmas on the lines of a text. Assumes nothing.
-use Rattle.std.proofs.Common.{◌≡◌, ℕ, ◌+◌, ◌<◌, ◌≤◌, eqb, List, [], ◌∷◌, length, get_or, drop, Some, None, Ok, Err, Option, Result, sym, refl, ap, ◌∙◌, inl, inr, arith, zero-add}
+use Rattle.std.proofs.Common.{◌≡◌, ℕ, ◌+◌, ◌<◌, ◌≤◌, eqb, List, [], ◌∷◌, length, get_or, drop, Some, None, Ok, Err, true, is_ok, IsErrAnd, MatchResult, Option, Result, sym, refl, ap, ◌∙◌, inl, inr, arith, zero-add, subst}
 use Rattle.std.specs.List.{enumerate_from, slice_split, onto_first}
 use Rattle.std.specs.Iterator.{Yields}
 use Rattle.std.specs.Option.{ok_or}
 use Rattle.std.proofs.lemmas.Iterator.{YieldsList}
 use Rattle.std.proofs.lemmas.Iterator.Consumers.{YieldsList-turn, YieldsList-end}
-use Rattle.std.proofs.lemmas.Bool.{cases_Bool}
+use Rattle.std.proofs.lemmas.Bool.{cases_Bool, false≢true}
 use Rattle.std.proofs.lemmas.List.{at_drop_more, at_drop_all}
 use Rattle.std.proofs.lemmas.List.FromFn.{length-enumerate_from, get_or-enumerate_from}
+use Rattle.script.specs.declared.scripts.Fault.{Fault}
 use Rattle.script.specs.declared.scripts.Fault.TheVariants as fault
 use Rattle.script.specs.declared.scripts.Script.{Script}
 use Rattle.script.specs.declared.scripts.Trouble.{Trouble}
@@ -99,10 +100,16 @@ part_turn parts n index line at =
     let e = at.1 ∙ get_or-enumerate_from 0 parts n (index, line) l in
     (l, ap (λ (p : ℕ × List ℕ). p.0) e ∙ zero-add n, ap (λ (p : ℕ × List ℕ). p.1) e)
 
--- the fault of a line that was not taken
-pub failed : (whole : Result Whole ℕ) (wanted : Option Read) (now : Read) (trouble : Trouble) (n : ℕ) → Took wanted (Err trouble) now → (None ≡ wanted → whole ≡ Err n) → Reads whole (Err (met trouble n))
-failed whole wanted now NotUnderstood n took h = h took
-failed whole wanted now NoMemory n took h = tt
+-- a line that was taken
+pub taken : (wanted : Option Read) (now : Read) (r : Result (Unit {0}) Trouble) → Took wanted r now → is_ok r ≡ true → Some now ≡ wanted
+taken wanted now (Ok _) took h = took
+taken wanted now (Err _) took h = absurd (false≢true h)
+
+-- the fault of a line that was not
+pub failed : (whole : Result Whole ℕ) (wanted : Option Read) (now : Read) (n : ℕ) (f : Fault) (r : Result (Unit {0}) Trouble) (m : Result (Unit {0}) Fault) → m ≡ Err f → MatchResult r (λ x. m ≡ Ok x) (λ e. IsErrAnd m (λ g. g ≡ met e n)) → Took wanted r now → (None ≡ wanted → whole ≡ Err n) → Reads whole (Err f)
+failed whole wanted now n f (Ok x) m e cases took h = absurd (false≢true (ap is_ok (sym e ∙ cases)))
+failed whole wanted now n f (Err NotUnderstood) m e cases took h = let met_so : f ≡ fault.NotUnderstood n = subst (λ (z : Result (Unit {0}) Fault). IsErrAnd z (λ g. g ≡ fault.NotUnderstood n)) e cases in subst (λ (g : Fault). Reads whole (Err g)) (sym met_so) (h took)
+failed whole wanted now n f (Err NoMemory) m e cases took h = let met_so : f ≡ fault.NoMemory = subst (λ (z : Result (Unit {0}) Fault). IsErrAnd z (λ g. g ≡ fault.NoMemory)) e cases in subst (λ (g : Fault). Reads whole (Err g)) (sym met_so) tt
 
 -- the end of a script
 pub closed : (whole : Result Whole ℕ) (s : Option Script) → whole ≡ finish_of s → Reads whole (ok_or s (fault.NotUnderstood 1))

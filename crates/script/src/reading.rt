@@ -219,9 +219,10 @@ pub fn read_script<'a>(heap: Global, text: &'a [u8]) -> Result<Script<'a>, Fault
 {
     let mut draft = Draft::new(heap);
     for (index, line) in text.split(|byte| *byte == b'\n').enumerate() {
-        if let Err(trouble) = draft.read_line(heap, line) {
-            return Err(trouble.at(index + 1));
-        }
+        let number = index + 1;
+        draft
+            .read_line(heap, line)
+            .map_err(|trouble| trouble.at(number))?;
     }
     draft.finish().ok_or(Fault::NotUnderstood { line: 1 })
 }
