@@ -87,13 +87,6 @@ impl<'a> Draft<'a> {
         }
     }
 
-    // Whether no call came yet.
-    fn has_no_calls(&self) -> bool
-        ensures { result ≡ (length (read_of self.now).calls == 0) }
-    {
-        self.entries.is_empty()
-    }
-
     // The storage is known.
     fn check_begun(&self) -> Result<(), Misplaced>
         ensures { IsOk result ↔ IsTrue (is_some (read_of self.now).storage) }
@@ -109,7 +102,7 @@ impl<'a> Draft<'a> {
         ensures { IsOk result ↔ IsTrue (setting_up (read_of self.now)) }
     {
         self.check_begun()?;
-        if self.rows.is_empty() && self.has_no_calls() {
+        if self.rows.is_empty() && self.entries.is_empty() {
             Ok(())
         } else {
             Err(Misplaced)
@@ -134,13 +127,12 @@ impl<'a> Draft<'a> {
     }
 
     // Takes the publication of the gathered rows, and gathers anew.
-    fn publish(&mut self, heap: Global, stay: Stay, name: &'a [u8]) -> Result<(), AllocError>
+    fn publish(&mut self, stay: Stay, name: &'a [u8]) -> Result<(), AllocError>
         ensures { OnOk result (read_of self.new ≡ posted (read_of self.old) stay name.now) }
     {
-        let rows = std::mem::replace(&mut self.rows, Vec::new(heap));
         let table = Table {
             interval: stay.interval,
-            rows,
+            rows: std::mem::try_take(&mut self.rows)?,
         };
         let entry = Entry::Publish {
             name: stay.name,
@@ -150,7 +142,7 @@ impl<'a> Draft<'a> {
     }
 
     // Takes a command, where it may stand.
-    fn take(&mut self, heap: Global, command: Command, word: &'a [u8]) -> Result<(), Trouble>
+    fn take(&mut self, command: Command, word: &'a [u8]) -> Result<(), Trouble>
         ensures { Took (moved (read_of self.old) word.now command) result (read_of self.new) }
     {
         match command {
@@ -173,7 +165,7 @@ impl<'a> Draft<'a> {
             }
             Command::Publish(stay) => {
                 self.check_begun()?;
-                self.publish(heap, stay, word)?;
+                self.publish(stay, word)?;
             }
             Command::Make(call) => {
                 self.check_begun()?;
@@ -184,14 +176,14 @@ impl<'a> Draft<'a> {
     }
 
     // Takes what a line says.
-    fn read_line(&mut self, heap: Global, line: &'a [u8]) -> Result<(), Trouble>
+    fn read_line(&mut self, line: &'a [u8]) -> Result<(), Trouble>
         ensures { Took (line_read (read_of self.old) line.now) result (read_of self.new) }
     {
         if is_skipped(line) {
             return Ok(());
         }
         let command = command(line).ok_or(Trouble::NotUnderstood)?;
-        self.take(heap, command, second_word(line))
+        self.take(command, second_word(line))
     }
 
     // The script, where there is a storage.
@@ -220,9 +212,7 @@ pub fn read_script<'a>(heap: Global, text: &'a [u8]) -> Result<Script<'a>, Fault
     let mut draft = Draft::new(heap);
     for (index, line) in text.split(|byte| *byte == b'\n').enumerate() {
         let number = index + 1;
-        draft
-            .read_line(heap, line)
-            .map_err(|trouble| trouble.at(number))?;
+        draft.read_line(line).map_err(|trouble| trouble.at(number))?;
     }
     draft.finish().ok_or(Fault::NotUnderstood { line: 1 })
 }
