@@ -1,5 +1,5 @@
 // Scripts read line by line.
-ghost use Rattle.std.specs.Prelude.{◌≡◌, length, if◌then◌else◌, is_some, IsOk, None, OnOk, Some, ◌==◌, ◌↔◌, IsTrue};
+ghost use Rattle.std.specs.Prelude.{◌≡◌, if◌then◌else◌, is_some, IsOk, None, OnOk, Some, ◌↔◌, IsTrue};
 ghost use Rattle.script.specs.declared.scripts.Trouble.TheVariants.{NotUnderstood, NoMemory};
 ghost use Rattle.command.specs.Words.{rest as rest_of, word as word_of};
 ghost use Rattle.script.specs.Drafts.{gathered, line_read, listed, moved, posted, setting_up, skipped, unread};
