@@ -108,7 +108,7 @@ fn outside(rt: HostRuntime) -> Result<(), Fail> {
         assert_eq!(rt; place.interval, window.interval);
         assert!(rt; place.rows.as_slice() == window.rows.as_slice());
     }
-    assert_eq!(rt; CutRefusal::OutsideSpan.number(), 3);
+    assert_eq!(rt; u8::from(CutRefusal::OutsideSpan), 3);
     Ok(())
 }
 

@@ -33,9 +33,9 @@ fn inner_zero(rt: HostRuntime) {
     let mut bytes = name.bytes;
     bytes[3] = b'D';
     assert!(rt; !Name { bytes }.is_valid());
-    assert!(rt; !Name { bytes }.same(&name));
+    assert!(rt; Name { bytes } != name);
     bytes[2] = b'C';
-    assert!(rt; Name { bytes }.same(&Name::from_text(b"ABCD")));
+    assert!(rt; Name { bytes } == Name::from_text(b"ABCD"));
     bytes[0] = 0;
     assert!(rt; !Name { bytes }.is_valid());
 }

@@ -1,8 +1,9 @@
-// Rows by their number and their ends.
+// Rows by their number and their ends; observances and refusals by their numbers.
 use std::alloc::{AllocError, Global};
 use std::test::Fail;
 use zone::deciding::*;
 use zone::intervals::ERA;
+use zone::refusals::Refusal;
 use zone::rows::*;
 use zone::windows::Window;
 
@@ -62,8 +63,32 @@ fn ends_of_the_era(rt: HostRuntime) -> Result<(), Fail> {
         };
         let before = window.interval;
         let interval = Interval { start, end };
-        assert_eq!(rt; window.fill(interval, &[row]), valid);
+        assert_eq!(rt; window.fill(interval, &[row]).is_ok(), valid);
         assert_eq!(rt; window.interval, if valid { interval } else { before });
+    }
+    Ok(())
+}
+
+/// The numbers of observances, there and back, and one that stands for none.
+#[test]
+fn observances(rt: HostRuntime) {
+    for (number, observance) in [(0u8, Observance::Standard), (1u8, Observance::Daylight)] {
+        assert_eq!(rt; u8::from(observance), number);
+        assert_eq!(rt; Observance::try_from(number), Ok(observance));
+    }
+    assert_eq!(rt; Observance::try_from(2u8), Err(UnknownObservance(2)));
+}
+
+/// Refusals as text: the number alone, with an edition, and with an offset.
+#[test]
+fn refusals(rt: HostRuntime) -> Result<(), Fail> {
+    for (refusal, text) in [
+        (Refusal::Silent, "refused 4"),
+        (Refusal::NoPage { edition: 7 }, "refused 5 edition 7"),
+        (Refusal::BadText { offset: 12 }, "refused 15 12"),
+    ] {
+        let shown = format!(in rt.alloc(); "{refusal}")?;
+        assert!(rt; shown.as_str() == text);
     }
     Ok(())
 }

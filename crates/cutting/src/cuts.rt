@@ -64,12 +64,12 @@ pub fn cut_window(window: &Window, to: Interval, place: &mut Window) -> Result<(
     cut_covering(window.interval, window.rows.as_slice(), to, place)
 }
 
-impl CutRefusal {
-    /// The number of the refusal in the table of refusals.
-    pub fn number(&self) -> u8
-        ensures { result ≡ cut_number self.now }
-    {
-        match self {
+// The number of the refusal in the table of refusals.
+impl From<CutRefusal> for u8 {
+    ghost from_gives = { λ refusal n. n ≡ cut_number refusal };
+
+    fn from(refusal: CutRefusal) -> u8 {
+        match refusal {
             CutRefusal::OutsideSpan => 3,
             CutRefusal::TooManyRows => 6,
             CutRefusal::NotATable => 13,

@@ -1,5 +1,5 @@
 // The rows of a cut, put into memory that is there.
-ghost use Rattle.std.specs.Prelude.{◌≡◌, ◌+◌, ◌<◌, ◌≤◌, length, vec_len, vec_capacity, count_by, nat_le, nat_lt};
+ghost use Rattle.std.specs.Prelude.{◌≡◌, ◌+◌, ◌<◌, ◌≤◌, length, vec_len, vec_capacity, nat_le};
 ghost use Rattle.zone.specs.Rows.{window_rows};
 ghost use Rattle.cutting.specs.Cutting.{begins_inside, cut, opening};
 
@@ -26,36 +26,20 @@ fn opened(row: Row, to: Interval) -> Row
     Row {
         onset: to.start,
         from,
-        to: row.to,
-        observance: row.observance,
+        ..row
     }
-}
-
-// How many rows begin inside the interval.
-fn count_inside(rows: &[Row], to: Interval) -> usize
-    ensures { result ≡ count_by (begins_inside to) rows.now }
-{
-    let mut n = 0;
-    for row in rows {
-        if does_begin_inside(*row, to) {
-            n += 1;
-        }
-    }
-    n
-}
-
-// Whether a window holds so many rows besides a first one.
-fn is_few(n: usize) -> bool
-    ensures { result ≡ nat_lt n window_rows }
-{
-    n < WINDOW_ROWS
 }
 
 /// Whether the cut of the rows to the interval has no more rows than a window holds.
+#[tactic(auto, using(crate::proofs::Fits::room_for))]
 pub fn is_cut_small(rows: &[Row], to: Interval) -> bool
     ensures { result ≡ nat_le (length (cut rows.now to)) window_rows }
 {
-    is_few(count_inside(rows, to))
+    let inside = rows
+        .iter()
+        .filter(|row| does_begin_inside(**row, to))
+        .count();
+    inside < WINDOW_ROWS
 }
 
 // Puts the cut in the place of what `out` held.
@@ -67,6 +51,7 @@ pub(crate) fn put_cut(rows: &[Row], to: Interval, out: &mut Vec<Row>)
 {
     out.clear();
     out.push_reserved(opened(rows[place_in_force(rows, Instant(to.start))], to));
+    // A `for` with `push_reserved`: `extend` may ask for memory, and no memory may be asked for here.
     for row in rows {
         if does_begin_inside(*row, to) {
             out.push_reserved(*row);

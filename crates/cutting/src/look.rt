@@ -1,5 +1,5 @@
 // The row in force at an instant, and the local time by it.
-ghost use Rattle.std.specs.Prelude.{◌≡◌, ◌<◌, true, length, ◌≤ℤ◌, Decides};
+ghost use Rattle.std.specs.Prelude.{◌≡◌, ◌<◌, true, length};
 ghost use Rattle.zone.specs.Intervals.{era, has_instant};
 ghost use Rattle.zone.specs.Refusals.{outcome};
 ghost use Rattle.zone.specs.Rows.{at as row_at, Offset};
@@ -11,21 +11,17 @@ use zone::refusals::Refusal;
 use zone::rows::{Instant, Row};
 use zone::windows::Window;
 
-fn has_begun(row: Row, at: Instant) -> bool
-    ensures { Decides result (row.onset ≤ℤ at.0) }
-{
-    row.onset <= at.0
-}
-
 // The place of the row in force: the last whose onset is not later, or the first.
+#[tactic(auto, using(crate::proofs::Seen::seen_none, crate::proofs::Seen::seen_taken, crate::proofs::Seen::seen_left, crate::proofs::Seen::seen_all))]
 pub(crate) fn place_in_force(rows: &[Row], at: Instant) -> usize
     requires { 0 < length rows.now }
     ensures within { result < length rows.now }
     ensures row { row_at rows.now result ≡ in_force rows.now at.0 }
 {
+    // A `for` over the rows, and no search from the end: the customer asks for this form.
     let mut place = 0;
     for (i, row) in rows.iter().enumerate() {
-        if has_begun(*row, at) {
+        if row.onset <= at.0 {
             place = i;
         }
     }

@@ -1,8 +1,10 @@
 -- Byte order, and the equality of names. Assumes nothing.
-use Rattle.std.proofs.Common.{◌≡◌, ℕ, ◌+◌, ◌<◌, ◌≤◌, Bool, true, false, ◌&&◌, ◌||◌, eqb, ltb, ◌⊎◌, List, [], ◌∷◌, length, get_or, drop, sym, refl, ap, inl, inr, arith}
+use Rattle.std.proofs.Common.{◌≡◌, ℕ, ◌<◌, Bool, true, false, Decides, Some, subst, ◌&&◌, ◌||◌, eqb, ltb, ◌⊎◌, List, [], ◌∷◌, sym, refl, ap, inl, inr, arith}
 use Rattle.std.proofs.lemmas.Slice.Eq.{bytes_eq-Decides}
-use Rattle.std.proofs.lemmas.List.{drop_more, drop_all}
 use Rattle.std.proofs.lemmas.Bool.Decides.{nat_tests}
+use Rattle.std.proofs.lemmas.Cmp.{same_from_slice_cmp_tested}
+use Rattle.std.specs.Cmp.Lexicographic.{slice_partial_cmp}
+use Rattle.std.specs.Ordering.{nat_cmp, is_lt, is_some_and}
 use Rattle.names.specs.declared.name.Name.{Name}
 use Rattle.names.specs.Comparing.{before, NamesOrdered, same_name}
 
@@ -13,15 +15,13 @@ same_name_is a b h = let make : List ℕ → Name = λ bs. record { bytes = bs }
 pub same_name_self : (a : Name) → same_name a a ≡ true
 same_name_self a = (bytes_eq-Decides a.bytes a.bytes).1 refl
 
--- one byte after the other
-pub before_more : (a b : List ℕ) (i : ℕ) → i < length a → i < length b → get_or a i 0 ≡ get_or b i 0 → before (drop i a) (drop i b) ≡ before (drop (i + 1) a) (drop (i + 1) b)
-before_more a b i l m q = rw (drop_more a i 0 l, drop_more b i 0 m) (grind (arith, nat_tests))
+-- so the test tells whether the two names are the same
+pub same_name_decides : (a b : Name) → Decides (same_name a b) (a ≡ b)
+same_name_decides a b = (same_name_is a b, λ e. subst (λ (x : Name). same_name a x ≡ true) e (same_name_self a))
 
-pub before_stop : (a b : List ℕ) (i : ℕ) → i < length a → i < length b → (get_or a i 0 ≡ get_or b i 0 → ⊥) → before (drop i a) (drop i b) ≡ ltb (get_or a i 0) (get_or b i 0)
-before_stop a b i l m n = rw (drop_more a i 0 l, drop_more b i 0 m) (grind (arith, nat_tests))
-
-pub before_none : (a b : List ℕ) (i : ℕ) → length a ≤ i → length b ≤ i → before (drop i a) (drop i b) ≡ false
-before_none a b i l m = rw (drop_all i a l, drop_all i b m)
+-- what `<` of two names has told is the order of their bytes
+pub before_told : (a b : List ℕ) (r : Bool) → r ≡ is_some_and is_lt (slice_partial_cmp (λ x y. Some (nat_cmp x y)) a b) → r ≡ before a b
+before_told = same_from_slice_cmp_tested nat_cmp is_lt before refl (λ _ _. refl) (λ _ _. refl) (λ x y xs ys o h. grind (arith, nat_tests))
 
 -- byte order is strict
 pub before_never : (a : List ℕ) → before a a ≡ false

@@ -1,9 +1,13 @@
 -- Lemmas on names and their padding. Assumes nothing.
-use Rattle.std.proofs.Common.{◌≡◌, ℕ, zero, suc, ◌+◌, ◌-◌, ◌<◌, ◌≤◌, Bool, true, false, cond, not, ◌&&◌, eqb, leb, List, [], ◌∷◌, ◌++◌, length, get_or, take, drop, replicate, Decides, sym, refl, ap, ◌∙◌, inl, inr, arith}
+use Rattle.std.proofs.Common.{◌≡◌, ℕ, zero, suc, ◌+◌, ◌-◌, ◌<◌, ◌≤◌, Bool, true, false, cond, not, ◌&&◌, eqb, leb, List, [], ◌∷◌, ◌++◌, length, length-take-le, get_or, take, drop, replicate, Decides, sym, refl, ap, ◌∙◌, inl, inr, arith}
 use Rattle.std.proofs.lemmas.Bool.{leb-true, eqb-true, eq-eqb, false≢true, and_parts, and_from, cases_Bool}
 use Rattle.std.proofs.lemmas.Bool.Decides.{nat_tests}
-use Rattle.std.proofs.lemmas.List.{take_more, append_assoc, append-nil, at_drop_more, at_drop_all}
+use Rattle.std.proofs.lemmas.List.{length-drop, take_all}
+use Rattle.std.specs.Prelude.{slice_range, ◌==◌}
+use Rattle.std.specs.List.{position, position_or_len}
+use Rattle.std.specs.Option.{unwrap_or}
 use Rattle.names.specs.Names.{name_byte, blank, padded, is_name, name_bytes, is_text, held, spelled}
+use Rattle.std.proofs.lemmas.List.Sums.{prefix_len-le-length}
 use Rattle.names.specs.Laws.{Spells, NamesStand}
 
 -- zero is no name byte
@@ -17,69 +21,80 @@ padded_yes b bs h = rw h
 pub padded_no : (b : ℕ) (bs : List ℕ) → name_byte b ≡ false → padded (b ∷ bs) ≡ (eqb b 0 && blank bs)
 padded_no b bs h = rw h
 
-pub unpadded : (bs : List ℕ) → padded bs ≡ false → is_name bs ≡ false
-unpadded [] h = refl
-unpadded (b ∷ bs) h = elim (cases_Bool (name_byte b)) [ inl y ↦ rw y (sym (padded_yes b bs y) ∙ h) | inr n ↦ rw n ]
+take_suc : (b : ℕ) (n : ℕ) (bs : List ℕ) → take (1 + n) (b ∷ bs) ≡ b ∷ take n bs
+take_suc b n bs = let e : 1 + n ≡ suc n = omega arith in ap (λ m. take m (b ∷ bs)) e
 
-pub padded_name : (bs : List ℕ) → 0 < length bs → padded bs ≡ true → is_name bs ≡ not (eqb (get_or bs 0 0) 0)
-padded_name [] l h = absurd (omega arith)
-padded_name (b ∷ bs) l h = elim (cases_Bool (name_byte b)) [
-  | inl y ↦ rw (y, not_zero b y) (sym (padded_yes b bs y) ∙ h)
-  | inr n ↦ rw (n, (and_parts (eqb b 0) (blank bs) (sym (padded_no b bs n) ∙ h)).0)
-]
+-- the bytes before the padding are those before the first zero byte
+first_zero : (bs : List ℕ) → take (position_or_len (λ b. eqb b 0) bs) bs ≡ spelled bs
+first_zero [] = refl
+first_zero (b ∷ bs) = step (eqb b 0) (first_zero bs)
+  where
+    step : (e : Bool) → take (position_or_len (λ x. eqb x 0) bs) bs ≡ spelled bs → take (cond (not e) (1 + position_or_len (λ x. eqb x 0) bs) 0) (b ∷ bs) ≡ cond e [] (b ∷ spelled bs)
+    step true h = refl
+    step false h = let t = take_suc b (position_or_len (λ x. eqb x 0) bs) bs in t ∙ ap (λ x. b ∷ x) h
 
--- the bytes before the padding, one more
-pub spelled_more : (bs : List ℕ) (i : ℕ) → i < length bs → eqb (get_or bs i 0) 0 ≡ false → take i bs ++ spelled (drop i bs) ≡ take (i + 1) bs ++ spelled (drop (i + 1) bs)
-spelled_more bs i l h =
-    let d : spelled (drop i bs) ≡ get_or bs i 0 ∷ spelled (drop (i + 1) bs) = at_drop_more spelled bs i 0 l ∙ rw h refl in
-    let t = take_more bs i 0 l in
-    rw (d, t, append_assoc)
+pub text_stops : (bs : List ℕ) (most n : ℕ) → length bs ≡ most → n ≡ unwrap_or (position (λ b. b == 0) bs) most → take n bs ≡ spelled bs
+text_stops bs most n l h = let k = prefix_len-le-length (λ b. not (eqb b 0)) bs in let e : n ≡ position_or_len (λ b. eqb b 0) bs = grind (arith, nat_tests) in ap (λ i. take i bs) e ∙ first_zero bs
 
-pub spelled_stop : (bs : List ℕ) (i : ℕ) → i < length bs → eqb (get_or bs i 0) 0 ≡ true → take i bs ++ spelled (drop i bs) ≡ take i bs
-spelled_stop bs i l h =
-    let d : spelled (drop i bs) ≡ [] = at_drop_more spelled bs i 0 l ∙ rw h refl in
-    rw (d, append-nil)
+-- what stands before the first zero byte, and what stands from there on
+parts_cons : (b : ℕ) (bs : List ℕ) (n : ℕ) → b ∷ take n bs ≡ spelled (b ∷ bs) → (eqb b 0 ≡ false) × (take n bs ≡ spelled bs)
+parts_cons b bs n h = go (eqb b 0) refl h
+  where
+    go : (e : Bool) → eqb b 0 ≡ e → b ∷ take n bs ≡ cond e [] (b ∷ spelled bs) → (eqb b 0 ≡ false) × (take n bs ≡ spelled bs)
+    go true f h = cc
+    go false f h = (f, cc)
 
-pub spelled_all : (bs : List ℕ) (i : ℕ) → length bs ≤ i → take i bs ++ spelled (drop i bs) ≡ take i bs
-spelled_all bs i l = rw (at_drop_all spelled bs i l, append-nil)
+parts_nil : (b : ℕ) (bs : List ℕ) → [] ≡ spelled (b ∷ bs) → b ≡ 0
+parts_nil b bs h = go (eqb b 0) refl h
+  where
+    go : (e : Bool) → eqb b 0 ≡ e → [] ≡ cond e [] (b ∷ spelled bs) → b ≡ 0
+    go true f h = eqb-true b 0 f
+    go false f h = cc
 
--- what is left of name bytes at place i
-pub bytes_more : (bs : List ℕ) (i : ℕ) → i < length bs → name_byte (get_or bs i 0) ≡ true → name_bytes (drop i bs) ≡ name_bytes (drop (i + 1) bs)
-bytes_more bs i l h = at_drop_more name_bytes bs i 0 l ∙ rw h refl
+padded_parts : (bs : List ℕ) (n : ℕ) → n ≤ length bs → take n bs ≡ spelled bs → padded bs ≡ (name_bytes (take n bs) && blank (drop n bs))
+padded_parts [] zero l h = refl
+padded_parts [] (suc n) l h = absurd (omega arith)
+padded_parts (b ∷ bs) zero l h = rw (parts_nil b bs h) refl
+padded_parts (b ∷ bs) (suc n) l h =
+    let p = parts_cons b bs n h in
+    let ih = padded_parts bs n (omega arith) p.1 in
+    elim (cases_Bool (name_byte b)) [ inl y ↦ rw y ih | inr m ↦ rw (m, p.0) refl ]
 
-pub bytes_stop : (bs : List ℕ) (i : ℕ) → i < length bs → name_byte (get_or bs i 0) ≡ false → name_bytes (drop i bs) ≡ false
-bytes_stop bs i l h = at_drop_more name_bytes bs i 0 l ∙ rw h refl
+-- the bytes before the padding are a name's text, and the padding is blank
+valid_parts : (bs : List ℕ) (n : ℕ) → n ≤ length bs → n ≤ 48 → take n bs ≡ spelled bs → is_name bs ≡ (is_text (take n bs) && blank (drop n bs))
+valid_parts [] zero l m h = refl
+valid_parts [] (suc n) l m h = absurd (omega arith)
+valid_parts (b ∷ bs) zero l m h = rw (parts_nil b bs h) refl
+valid_parts (b ∷ bs) (suc n) l m h =
+    let p = padded_parts bs n (omega arith) (parts_cons b bs n h).1 in
+    let k = length-take-le n bs (omega arith) in
+    grind (arith, nat_tests)
 
--- what is left to hold of the bytes, where the padding has begun or not
-abbrev pub left_padded : Bool → List ℕ → Bool
-left_padded p bs = cond p (blank bs) (padded bs)
+-- the bytes before the padding stand at the front
+spelled_front : (bs : List ℕ) → (length (spelled bs) ≤ length bs) × (take (length (spelled bs)) bs ≡ spelled bs)
+spelled_front [] = (omega arith, refl)
+spelled_front (b ∷ bs) = go (eqb b 0) (spelled_front bs)
+  where
+    go : (e : Bool) → (length (spelled bs) ≤ length bs) × (take (length (spelled bs)) bs ≡ spelled bs) → (length (cond e [] (b ∷ spelled bs)) ≤ suc (length bs)) × (take (length (cond e [] (b ∷ spelled bs))) (b ∷ bs) ≡ cond e [] (b ∷ spelled bs))
+    go true h = (omega arith, refl)
+    go false h = (omega (arith, h.0), ap (λ x. b ∷ x) h.1)
 
-pub left_name : (p : Bool) (bs : List ℕ) (i : ℕ) → i < length bs → p ≡ false → name_byte (get_or bs i 0) ≡ true → left_padded p (drop i bs) ≡ left_padded p (drop (i + 1) bs)
-left_name p bs i l q h = at_drop_more (left_padded p) bs i 0 l ∙ rw (q, h) refl
+pub spelled_short : (bs : List ℕ) → length (spelled bs) ≤ length bs
+spelled_short bs = (spelled_front bs).0
 
-pub left_late : (p : Bool) (bs : List ℕ) (i : ℕ) → i < length bs → p ≡ true → name_byte (get_or bs i 0) ≡ true → left_padded p (drop i bs) ≡ false
-left_late p bs i l q h = at_drop_more (left_padded p) bs i 0 l ∙ rw (q, not_zero (get_or bs i 0) h) refl
+valid_by : (bs : List ℕ) → length bs ≡ 48 → is_name bs ≡ (is_text (spelled bs) && blank (drop (length (spelled bs)) bs))
+valid_by bs l =
+    let f = spelled_front bs in
+    valid_parts bs (length (spelled bs)) f.0 (omega (arith, f.0)) f.1 ∙ ap (λ t. is_text t && blank (drop (length (spelled bs)) bs)) f.1
 
-zero_step : (p : Bool) (b : ℕ) (bs : List ℕ) → b ≡ 0 → left_padded p (b ∷ bs) ≡ left_padded true bs
-zero_step true b bs z = rw z
-zero_step false b bs z = rw z
+pub valid_told : (bs : List ℕ) (r : Bool) → length bs ≡ 48 → true ≡ is_text (spelled bs) → r ≡ blank (slice_range bs (length (spelled bs)) 48) → r ≡ is_name bs
+valid_told bs r l t e =
+    let n = length (spelled bs) in
+    let k : slice_range bs n 48 ≡ drop n bs = take_all (48 - n) (drop n bs) (omega (arith, length-drop n bs)) in
+    e ∙ ap blank k ∙ ap (λ x. x && blank (drop n bs)) t ∙ sym (valid_by bs l)
 
-pub left_zero : (p : Bool) (bs : List ℕ) (i : ℕ) → i < length bs → get_or bs i 0 ≡ 0 → left_padded p (drop i bs) ≡ left_padded true (drop (i + 1) bs)
-left_zero p bs i l z = at_drop_more (left_padded p) bs i 0 l ∙ zero_step p (get_or bs i 0) (drop (i + 1) bs) z
-
-other_step : (p : Bool) (b : ℕ) (bs : List ℕ) → name_byte b ≡ false → eqb b 0 ≡ false → left_padded p (b ∷ bs) ≡ false
-other_step true b bs h z = rw z
-other_step false b bs h z = rw (h, z)
-
-pub left_other : (p : Bool) (bs : List ℕ) (i : ℕ) → i < length bs → name_byte (get_or bs i 0) ≡ false → eqb (get_or bs i 0) 0 ≡ false → left_padded p (drop i bs) ≡ false
-left_other p bs i l h z = at_drop_more (left_padded p) bs i 0 l ∙ other_step p (get_or bs i 0) (drop (i + 1) bs) h z
-
-none_step : (p : Bool) → left_padded p [] ≡ true
-none_step true = refl
-none_step false = refl
-
-pub left_none : (p : Bool) (bs : List ℕ) (i : ℕ) → length bs ≤ i → left_padded p (drop i bs) ≡ true
-left_none p bs i l = at_drop_all (left_padded p) bs i l ∙ none_step p
+pub valid_not : (bs : List ℕ) (r : Bool) → length bs ≡ 48 → false ≡ is_text (spelled bs) → r ≡ false → r ≡ is_name bs
+valid_not bs r l t e = e ∙ ap (λ x. x && blank (drop (length (spelled bs)) bs)) t ∙ sym (valid_by bs l)
 
 -- zero bytes only, place by place
 zeros_there : (b : ℕ) (bs : List ℕ) → (blank bs ≡ true → (k : ℕ) → k < length bs → get_or bs k 0 ≡ 0) → blank (b ∷ bs) ≡ true → (k : ℕ) → k < suc (length bs) → get_or (b ∷ bs) k 0 ≡ 0

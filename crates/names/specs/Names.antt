@@ -1,5 +1,6 @@
 -- Zone names. Assumes nothing.
 use Rattle.std.specs.Prelude.{ℕ, ◌-◌, Bool, true, false, cond, ◌&&◌, ◌||◌, List, [], ◌∷◌, ◌++◌, length, replicate, ◌==◌, nat_le}
+use Rattle.std.specs.List.{list_all}
 
 -- a letter, a digit, '/', '_', '+' or '-'
 abbrev pub name_byte : ℕ → Bool
@@ -7,8 +8,7 @@ name_byte b = (nat_le 65 b && nat_le b 90) || ((nat_le 97 b && nat_le b 122) || 
 
 -- zero bytes only
 abbrev pub blank : List ℕ → Bool
-blank [] = true
-blank (b ∷ bs) = b == 0 && blank bs
+blank bytes = list_all (λ b. b == 0) bytes
 
 -- name bytes, and after them zero bytes only
 abbrev pub padded : List ℕ → Bool
@@ -22,8 +22,7 @@ is_name (b ∷ bs) = name_byte b && padded bs
 
 -- name bytes only
 abbrev pub name_bytes : List ℕ → Bool
-name_bytes [] = true
-name_bytes (b ∷ bs) = name_byte b && name_bytes bs
+name_bytes bytes = list_all name_byte bytes
 
 -- the text of a name: 1 to 48 name bytes
 abbrev pub is_text : List ℕ → Bool

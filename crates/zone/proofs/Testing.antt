@@ -1,15 +1,18 @@
 -- The tests of tables tell the facts. Assumes nothing.
-use Rattle.std.proofs.Common.{◌≡◌, ℕ, ◌+◌, ◌-◌, ◌≤◌, Bool, false, ◌&&◌, leb, List, length, ℤ, ◌≤ℤ◌, ◌<ℤ◌, Decides, sym, refl, ap, ◌∙◌, subst, inl, inr, arith}
+use Rattle.std.proofs.Common.{◌≡◌, ℕ, ◌+◌, ◌-◌, ◌≤◌, Bool, true, false, ◌&&◌, leb, List, length, ℤ, ◌≤ℤ◌, ◌<ℤ◌, Decides, Ok, Err, Result, sym, refl, ap, ◌∙◌, subst, inl, inr, arith}
 use lib.Signed.{lt_z, le_z}
 use Rattle.std.proofs.lemmas.Int.{ints}
-use Rattle.std.proofs.lemmas.Bool.{leb-true, le-leb, and_left, cases_Bool}
-use Rattle.std.proofs.lemmas.Bool.Decides.{same_from_decides, Decides-like, Decides-and, Decides-ltb, Decides-below_and}
+use Rattle.std.proofs.lemmas.Bool.{leb-true, le-leb, and_left, cases_Bool, false≢true}
+use Rattle.std.proofs.lemmas.Bool.Decides.{same_from_decides, Decides-at, Decides-by_and, Decides-like, Decides-and, Decides-ltb, Decides-below_and}
+use Rattle.std.proofs.lemmas.List.Elements.{All-get_or, All-from_get_or}
+use Rattle.std.specs.List.{IsAllAdjacentAnswer, list_all}
+use Rattle.std.specs.Result.{OnOk, is_ok}
 use Rattle.zone.specs.declared.rows.Interval.{Interval}
 use Rattle.zone.specs.declared.rows.Row.{Row}
 use Rattle.zone.specs.Intervals.{era, same_interval, same_number}
 use Rattle.zone.specs.Laws.{TablesStand}
-use Rattle.zone.specs.Rows.{at, Offset, Joined, Small, Covers, Sound, table_rows}
-use Rattle.zone.specs.Tables.{each_below, small, joined_at, small_at, cover, is_table, is_era_table}
+use Rattle.zone.specs.Rows.{at, no_row, Offset, Joined, Small, Covers, Sound, table_rows}
+use Rattle.zone.specs.Tables.{each_below, small, follows, joined_at, small_row, small_at, cover, is_table, is_era_table}
 
 decides_ltZ : (a b : ℤ) → Decides (lt_z a b) (a <ℤ b)
 decides_ltZ a b = (λ h. grind (arith, ints), λ h. grind (arith, ints))
@@ -36,6 +39,27 @@ decides_all_small : (rows : List Row) → Decides (each_below (length rows) (sma
 decides_all_small rows =
     Decides-below_and (small_at rows) (λ k. Offset (at rows k).from × Offset (at rows k).to) (λ n. each_below n (small_at rows))
     (λ k. Decides-and _ _ (decides_small (at rows k).from) (decides_small (at rows k).to)) refl (λ _. refl) (length rows)
+
+-- a test of one row with another
+decides_follows : (row next : Row) → Decides (follows row next) ((row.onset <ℤ next.onset) × (next.from ≡ row.to))
+decides_follows row next = Decides-and _ _ (decides_ltZ row.onset next.onset) (decides_same next.from row.to)
+
+-- what was told of each row and the next is told of the rows
+pub joined_told : (rows : List Row) (r : Bool) → IsAllAdjacentAnswer (λ x y b. b ≡ follows x y) rows r → Decides r (Joined rows)
+joined_told rows true h = (λ _ k l. (decides_follows (at rows k) (at rows (k + 1))).0 (sym (h k no_row l)), λ _. refl)
+joined_told rows false h = (λ e. absurd (false≢true e), λ j. absurd (false≢true (h.2 no_row ∙ (decides_follows (at rows h.0) (at rows (h.0 + 1))).1 (j h.0 h.1))))
+
+-- the same of the offsets of each row
+decides_small_row : (row : Row) → Decides (small_row row) (Offset row.from × Offset row.to)
+decides_small_row row = Decides-and _ _ (decides_small row.from) (decides_small row.to)
+
+pub small_told : (row : Row) (b : Bool) → Decides b (Offset row.from × Offset row.to) → b ≡ small_row row
+small_told row b d = same_from_decides b (small_row row) d (decides_small_row row)
+
+pub all_small_told : (rows : List Row) (r : Bool) → r ≡ list_all small_row rows → Decides r (Small rows)
+all_small_told rows r e =
+    let P : Row → Type 0 = λ row. Offset row.from × Offset row.to in
+    Decides-at r (list_all small_row rows) e (Decides-like (list_all small_row rows) (λ h k l. All-get_or P rows k no_row l h) (λ h. All-from_get_or P rows no_row h) (Decides-by_and small_row P (list_all small_row) decides_small_row refl (λ _ _. refl) rows))
 
 pub decides_cover : (i : Interval) (rows : List Row) → Decides (cover i rows) (Covers i rows)
 decides_cover i rows =
@@ -74,3 +98,8 @@ era_table_yes i rows r s d =
 
 pub era_table_no : (i : Interval) (rows : List Row) → ((i.start ≡ era.start) × (i.end ≡ era.end) → ⊥) → is_era_table i rows ≡ false
 era_table_no i rows n = and_left (same_interval i era) (is_table i rows) (elim (cases_Bool (same_interval i era)) [ inl y ↦ absurd (let q = (decides_interval i era).0 y in n (ap (λ (x : Interval). x.start) q, ap (λ (x : Interval). x.end) q)) | inr f ↦ f ])
+
+-- what holds where a call went well
+pub on_ok : {E P : Type 0} (r : Result (Unit {0}) E) → OnOk r P → is_ok r ≡ true → P
+on_ok (Ok done) p h = p
+on_ok (Err e) p h = absurd (false≢true h)

@@ -4,3 +4,4 @@ pub mod Rows
 pub mod Tables
 pub mod Comparing
 pub mod Laws
+pub mod Observances

@@ -1,5 +1,6 @@
 -- The number of each refusal, and the values that it returns besides. Assumes nothing.
-use Rattle.std.specs.Prelude.{ℕ, List, [], ◌∷◌, Ok, Err, Result}
+use Rattle.std.specs.Prelude.{ℕ, List, [], ◌∷◌, ◌++◌, Ok, Err, Result, codes}
+use Rattle.std.specs.Fmt.{decimal}
 use Rattle.zone.specs.declared.refusals.Refusal.{Refusal}
 use Rattle.zone.specs.declared.refusals.Refusal.TheVariants.{BadName, BadInterval, OutsideSpan, Silent, NoPage, TooManyRows, BelowFloor, AlreadyPending, NoFreeSlot, NotPending, NotHeld, OutsideWindow, NotATable, DoesNotFit, BadText, BufferTooShort}
 
@@ -39,6 +40,18 @@ values NotATable = []
 values DoesNotFit = []
 values (BadText o) = o ∷ []
 values BufferTooShort = []
+
+-- what stands behind the number in the text of a refusal: the edition of 5, 6 and 7, and the byte offset of 15
+abbrev pub values_text : Refusal → List ℕ
+values_text (NoPage e) = codes " edition " ++ decimal e
+values_text (TooManyRows e) = codes " edition " ++ decimal e
+values_text (BelowFloor e) = codes " edition " ++ decimal e
+values_text (BadText o) = codes " " ++ decimal o
+values_text _ = []
+
+-- the text of a refusal, as `refused 4`, `refused 5 edition 7` or `refused 15 12`
+abbrev pub refusal_text : Refusal → List ℕ
+refusal_text refusal = codes "refused " ++ decimal (number refusal) ++ values_text refusal
 
 -- what a call comes to: its answer, or a refusal by number and values
 pub data Outcome (X : Type 0) : Type 0 where

@@ -14,13 +14,21 @@ each_below (suc n) test = test n && each_below n test
 abbrev pub small : ℤ → Bool
 small z = int_le (negsuc 86398) z && int_le z (pos 86399)
 
--- the row at k + 1 begins after the row at k, and takes its `from` over from that row's `to`
+-- the next row begins after the row, and takes its `from` over from that row's `to`
+abbrev pub follows : Row → Row → Bool
+follows row next = int_lt row.onset next.onset && same_number next.from row.to
+
+-- the row at k + 1 follows the row at k
 abbrev pub joined_at : List Row → ℕ → Bool
-joined_at rows k = int_lt (at rows k).onset (at rows (k + 1)).onset && same_number (at rows (k + 1)).from (at rows k).to
+joined_at rows k = follows (at rows k) (at rows (k + 1))
+
+-- both offsets of the row are in range
+abbrev pub small_row : Row → Bool
+small_row row = small row.from && small row.to
 
 -- both offsets of the row at k are in range
 abbrev pub small_at : List Row → ℕ → Bool
-small_at rows k = small (at rows k).from && small (at rows k).to
+small_at rows k = small_row (at rows k)
 
 -- the rows cover the interval
 abbrev pub cover : Interval → List Row → Bool

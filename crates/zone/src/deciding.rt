@@ -2,7 +2,7 @@
 ghost use Rattle.std.specs.Prelude.{◌≡◌, ◌≤◌, length, ◌<ℤ◌, Decides};
 ghost use Rattle.zone.specs.Intervals.{era};
 ghost use Rattle.zone.specs.Rows.{Begins, Covers, Ends, Joined, Offset, Small, Sound, table_rows, window_rows};
-ghost use Rattle.zone.specs.Tables.{is_era_table};
+ghost use Rattle.zone.specs.Tables.{follows as does_follow, is_era_table};
 
 use super::intervals::ERA;
 use super::rows::{Interval, Row};
@@ -21,7 +21,7 @@ fn is_small(row: Row) -> bool
 }
 
 fn follows(row: Row, next: Row) -> bool
-    ensures { Decides result ((row.onset <ℤ next.onset) × (next.from ≡ row.to)) }
+    ensures { result ≡ does_follow row next }
 {
     row.onset < next.onset && next.from == row.to
 }
@@ -29,24 +29,16 @@ fn follows(row: Row, next: Row) -> bool
 fn are_joined(rows: &[Row]) -> bool
     ensures { Decides result (Joined rows.now) }
 {
-    for i in 1..rows.len() {
-        if !follows(rows[i - 1], rows[i]) {
-            return false;
-        }
-    }
-    true
+    rows.is_sorted_by(|row, next| follows(*row, *next))
 }
 
 fn are_small(rows: &[Row]) -> bool
     ensures { Decides result (Small rows.now) }
 {
-    for row in rows {
-        if !is_small(*row) {
-            return false;
-        }
-    }
-    true
+    rows.iter().all(|row| is_small(*row))
 }
+
+// An interval and rows are two parameters, here and in `cutting`: they lie in a `Vec`, an array or a part of one, and a struct that borrows the rows would put one more name into each clause and make none plainer.
 
 /// Whether the rows cover the interval.
 pub fn do_cover(rows: &[Row], interval: Interval) -> bool
@@ -59,25 +51,32 @@ pub fn do_cover(rows: &[Row], interval: Interval) -> bool
         && are_small(rows)
 }
 
+// Whether the rows cover the interval, which lies in the era, and are at most so many.
+fn is_sound<const MOST: usize>(interval: Interval, rows: &[Row]) -> bool
+    ensures { Decides result (Sound MOST interval rows.now) }
+{
+    interval.is_within(ERA) && rows.len() <= MOST && do_cover(rows, interval)
+}
+
 /// Whether the rows are those of a window over the interval.
 pub fn is_window(interval: Interval, rows: &[Row]) -> bool
     ensures { Decides result (Sound window_rows interval rows.now) }
 {
-    interval.is_within(ERA) && rows.len() <= WINDOW_ROWS && do_cover(rows, interval)
+    is_sound::<WINDOW_ROWS>(interval, rows)
 }
 
 /// Whether the rows are those of a table over the interval.
 pub fn is_table(interval: Interval, rows: &[Row]) -> bool
     ensures { Decides result (Sound table_rows interval rows.now) }
 {
-    interval.is_within(ERA) && rows.len() <= TABLE_ROWS && do_cover(rows, interval)
+    is_sound::<TABLE_ROWS>(interval, rows)
 }
 
-// Whether the interval is the whole era.
+// Whether the interval is the whole era: in a function of its own, so that its contract alone tells what `==` has to compare.
 fn is_era(interval: Interval) -> bool
     ensures { Decides result ((interval.start ≡ era.start) × (interval.end ≡ era.end)) }
 {
-    interval.is_same(ERA)
+    interval == ERA
 }
 
 impl Table {

@@ -1,5 +1,5 @@
 // Windows made once and filled again in place.
-ghost use Rattle.std.specs.Prelude.{◌≡◌, true, false, [], ◌∷◌, IfOk, Decides};
+ghost use Rattle.std.specs.Prelude.{◌≡◌, ◌↔◌, [], ◌∷◌, IfOk, IsOk, OnOk, OnErr};
 ghost use Rattle.zone.specs.Intervals.{era};
 ghost use Rattle.zone.specs.Rows.{Sound, utc, window_rows};
 
@@ -8,6 +8,10 @@ use super::intervals::ERA;
 use super::rows::{Interval, Observance, Row};
 use super::windows::Window;
 use std::alloc::{AllocError, Global};
+
+/// The rows are no window's over the interval.
+#[derive(Clone, Copy, PartialEq, Eq, Debug)]
+pub struct NotAWindow;
 
 impl Window {
     /// A window with memory for all rows that it may ever have: UTC over the whole era.
@@ -27,18 +31,18 @@ impl Window {
         })
     }
 
-    /// Takes these rows over the interval in the place of its own, and answers true; or leaves all as it was, where they are no window's.
-    pub fn fill(&mut self, interval: Interval, rows: &[Row]) -> bool
-        ensures told { Decides result (Sound window_rows interval rows.now) }
-        ensures filled { result ≡ true → (self.new.interval ≡ interval) × (self.new.rows.items ≡ rows.now) }
-        ensures refused { result ≡ false → (self.new.interval ≡ self.old.interval) × (self.new.rows ≡ self.old.rows) }
+    /// Takes these rows over the interval in the place of its own; or leaves all as it was, where they are no window's.
+    pub fn fill(&mut self, interval: Interval, rows: &[Row]) -> Result<(), NotAWindow>
+        ensures told { IsOk result ↔ Sound window_rows interval rows.now }
+        ensures filled { OnOk result ((self.new.interval ≡ interval) × (self.new.rows.items ≡ rows.now)) }
+        ensures refused { OnErr result ((self.new.interval ≡ self.old.interval) × (self.new.rows ≡ self.old.rows)) }
     {
         if !is_window(interval, rows) {
-            return false;
+            return Err(NotAWindow);
         }
         self.rows.clear();
         let _ = self.rows.extend_from_slice(rows);
         self.interval = interval;
-        true
+        Ok(())
     }
 }

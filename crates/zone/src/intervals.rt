@@ -1,5 +1,5 @@
 // Intervals of instants: the era, and what lies inside what.
-ghost use Rattle.std.specs.Prelude.{◌≡◌, Decides};
+ghost use Rattle.std.specs.Prelude.{◌≡◌};
 ghost use Rattle.zone.specs.Intervals.{has_instant, within};
 
 use super::rows::{Instant, Interval};
@@ -16,13 +16,6 @@ impl Interval {
         ensures { result ≡ within self.now outer }
     {
         outer.start <= self.start && self.start < self.end && self.end <= outer.end
-    }
-
-    /// Whether the two intervals are the same.
-    pub fn is_same(&self, other: Interval) -> bool
-        ensures { Decides result ((self.now.start ≡ other.start) × (self.now.end ≡ other.end)) }
-    {
-        self.start == other.start && self.end == other.end
     }
 
     /// Whether the instant lies in the interval.

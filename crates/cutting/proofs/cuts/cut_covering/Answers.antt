@@ -1,21 +1,11 @@
-use Rattle.std.proofs.Common.{◌≤◌, List, length, vec_items, sym, refl, ap, subst, le_trans, arith}
+use Rattle.std.proofs.Common.{◌≤◌, List, length, vec_items, sym, ap, subst, arith}
 use Rattle.std.proofs.lemmas.Bool.{leb-true}
 use Rattle.zone.specs.declared.rows.Row.{Row}
 use Rattle.zone.specs.Intervals.{era}
 use Rattle.zone.specs.Rows.{Covers}
 use Rattle.cutting.specs.Cutting.{cut}
 use Rattle.cutting.proofs.Clipping.{cuts_agree, within_trans}
-use Rattle.cutting.proofs.Fits.{cut_many}
 use Rattle.cutting.proofs.cuts.cut_covering.Goals as goal
-
-pub returns-then-not-is_cut_small : goal.returns-then-not-is_cut_small
-returns-then-not-is_cut_small c =
-    record { told = sym (cut_many c.args.of c.args.rows.now c.args.to (sym c.if-not-is_within.ensures) (sym c.if-not-is_cut_small.ensures)); leaves = (refl, refl) }
-
-pub put_cut-requires : goal.put_cut-requires
-put_cut-requires c =
-    let n : length (cut c.args.rows.now c.args.to) ≤ 64 = leb-true _ 64 (sym c.if-not-is_cut_small.ensures) in
-    record { some = c.requires.covers.begins.0; room = le_trans n c.args.place.now.room }
 
 pub invariant_of-place : goal.invariant_of-place
 invariant_of-place c =

@@ -1,6 +1,0 @@
-use Rattle.std.proofs.Common.{◌≡◌, ◌++◌, take, drop}
-use Rattle.names.specs.Names.{spelled}
-use Rattle.names.proofs.name.Name.text_len.Given as goal
-
-abbrev pub invariant-loop-i : goal.invariant-loop-i
-invariant-loop-i l = take l.i l.self.bytes ++ spelled (drop l.i l.self.bytes) ≡ spelled l.self.bytes
