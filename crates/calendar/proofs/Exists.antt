@@ -4,7 +4,7 @@ use Rattle.std.proofs.lemmas.Int.{ints}
 use Rattle.calendar.specs.declared.dates.Stamp.{Stamp}
 use Rattle.calendar.specs.Calendar.{year_days, month_days, days_before_year, days_before_month, Valid, seconds_from_1899, seconds, InRange}
 use Rattle.calendar.proofs.Sum.{between_exists, months_year}
-use Rattle.calendar.proofs.Unique.{day_small}
+use Rattle.calendar.proofs.Unique.{day_number_small}
 
 -- each day has a year and a month
 pub day_exists : (d : ℕ) → d < 73779 → (y m r : ℕ) × (1899 ≤ y) × (y ≤ 2100) × (1 ≤ m) × (m ≤ 12) × (r < month_days y m) × (days_before_year y + days_before_month y m + r ≡ d)
@@ -40,5 +40,5 @@ seconds_exist (negsuc k) h = let g : k < 2240524800 = omega (arith, ints) in let
 -- a valid stamp has its seconds in range
 pub seconds_inside : (d : Stamp) → Valid d → InRange (seconds d)
 seconds_inside d v =
-    let s = day_small d.year d.month (d.day - 1) v.first_year v.last_year v.first_month v.last_month (omega arith) in
+    let s = day_number_small d v in
     record { from_1899 = omega (arith, ints); before_2101 = omega (arith, ints) }

@@ -1,9 +1,9 @@
 -- No two valid stamps have the same seconds.
-use Rattle.std.proofs.Common.{◌≡◌, ℕ, ◌+◌, ◌-◌, ◌<◌, ◌≤◌, Bool, true, false, cond, [], ◌∷◌, arith}
+use Rattle.std.proofs.Common.{◌≡◌, ℕ, ◌-◌, ◌<◌, ◌≤◌, Bool, true, false, cond, [], ◌∷◌, arith}
 use Rattle.std.proofs.lemmas.Int.{ints}
 use Rattle.std.proofs.ByRecursion.{All-get_or}
 use Rattle.calendar.specs.declared.dates.Stamp.{Stamp}
-use Rattle.calendar.specs.Calendar.{leap, year_days, month_days, days_before_year, days_before_month, Valid, day_number, second_of_day, seconds_from_1899, seconds}
+use Rattle.calendar.specs.Calendar.{leap, year_days, month_days, Valid, day_number, second_of_day, seconds_from_1899, seconds}
 use Rattle.calendar.proofs.Sum.{between_mono, in_year, day_unique}
 
 feb_le : (b : Bool) → cond b 29 28 ≤ 31
@@ -16,8 +16,8 @@ month_days_le y m h =
     All-get_or (λ x. x ≤ 31) (0 ∷ 31 ∷ cond (leap y) 29 28 ∷ 31 ∷ 30 ∷ 31 ∷ 30 ∷ 31 ∷ 31 ∷ 30 ∷ 31 ∷ 30 ∷ 31 ∷ []) m 0 (omega arith) (omega arith)
 
 -- the last day of 2100 is the 73778th after 1 January 1899
-pub day_small : (y m r : ℕ) → 1899 ≤ y → y ≤ 2100 → 1 ≤ m → m ≤ 12 → r < month_days y m → days_before_year y + days_before_month y m + r < 73779
-day_small y m r a b c d l = omega (arith, in_year y m r c d l, between_mono year_days 1899 y 2101 a (omega arith))
+pub day_number_small : (d : Stamp) → Valid d → day_number d < 73779
+day_number_small d v = omega (arith, v.last_year, in_year d.year d.month (d.day - 1) v.first_month v.last_month (omega arith), between_mono year_days 1899 d.year 2101 v.first_year (omega arith))
 
 unfoldable made : ℕ → ℕ → ℕ → ℕ → ℕ → ℕ → Stamp
 made y m d h i s = record { year = y; month = m; day = d; hour = h; minute = i; second = s }

@@ -1,7 +1,9 @@
 -- Gregorian dates in the years 1899 to 2100, and the seconds from the start of 1970 to them.
-use Rattle.std.specs.Prelude.{◌≡◌, ℕ, zero, suc, ◌+◌, ◌-◌, ◌*◌, ◌%◌, ◌<◌, ◌≤◌, Bool, cond, not, ◌&&◌, ◌||◌, [], ◌∷◌, ℤ, pos, negsuc, ◌-ℤ◌, ◌≤ℤ◌, ◌<ℤ◌, Some, None, Option, ◌==◌, slice_index}
+use Rattle.std.specs.Prelude.{◌≡◌, ℕ, zero, suc, ◌+◌, ◌-◌, ◌*◌, ◌%◌, ◌<◌, ◌≤◌, Bool, if◌then◌else◌, not, ◌&&◌, ◌||◌, [], ◌∷◌, ℤ, pos, negsuc, ◌-ℤ◌, ◌≤ℤ◌, ◌<ℤ◌, Ok, Err, Result, ◌==◌, slice_index}
 use Rattle.calendar.specs.declared.dates.Stamp.{Stamp}
 use Rattle.calendar.specs.declared.dates.Seconds.{Seconds}
+use Rattle.calendar.specs.declared.dates.InvalidStamp.{InvalidStamp}
+use Rattle.calendar.specs.declared.dates.AnotherYear.{AnotherYear}
 
 -- whether the year has a 29 February
 abbrev pub leap : ℕ → Bool
@@ -9,11 +11,11 @@ leap y = y % 4 == 0 && (not (y % 100 == 0) || y % 400 == 0)
 
 -- the days of the year
 abbrev pub year_days : ℕ → ℕ
-year_days y = cond (leap y) 366 365
+year_days y = if leap y then 366 else 365
 
 -- the days of the month m of the year y: January is 1
 abbrev pub month_days : ℕ → ℕ → ℕ
-month_days y m = slice_index (0 ∷ 31 ∷ cond (leap y) 29 28 ∷ 31 ∷ 30 ∷ 31 ∷ 30 ∷ 31 ∷ 31 ∷ 30 ∷ 31 ∷ 30 ∷ 31 ∷ []) m
+month_days y m = slice_index (0 ∷ 31 ∷ (if leap y then 29 else 28) ∷ 31 ∷ 30 ∷ 31 ∷ 30 ∷ 31 ∷ 31 ∷ 30 ∷ 31 ∷ 30 ∷ 31 ∷ []) m
 
 -- the sum f 0 + f 1 + .. of the first n values
 abbrev pub sum_below : (ℕ → ℕ) → ℕ → ℕ
@@ -76,12 +78,12 @@ pub record StampIs (n : Seconds) (d : Stamp) : Type 0 where
   pub valid : Valid d
   pub value : seconds d ≡ n.0
 
--- the seconds of a stamp: none exactly if it is not valid
-abbrev pub SecondsFound : Stamp → Option Seconds → Type 0
-SecondsFound d None = Valid d → ⊥
-SecondsFound d (Some n) = SecondsAre d n
+-- the seconds of a stamp: an error exactly if it is not valid
+abbrev pub SecondsFound : Stamp → Result Seconds InvalidStamp → Type 0
+SecondsFound d (Err e) = Valid d → ⊥
+SecondsFound d (Ok n) = SecondsAre d n
 
--- the stamp at some seconds: none exactly if they are out of range
-abbrev pub StampFound : Seconds → Option Stamp → Type 0
-StampFound n None = InRange n.0 → ⊥
-StampFound n (Some d) = StampIs n d
+-- the stamp at some seconds: an error exactly if they are out of range
+abbrev pub StampFound : Seconds → Result Stamp AnotherYear → Type 0
+StampFound n (Err e) = InRange n.0 → ⊥
+StampFound n (Ok d) = StampIs n d

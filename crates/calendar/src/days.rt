@@ -50,6 +50,7 @@ pub(crate) fn days_before_month(year: u16, month: u8) -> u32
 }
 
 /// The year in which the day lies that is `days` after 1 January 1899, and how many days it is after 1 January.
+#[tactic(auto, using(crate::proofs::Closed::year_guess))]
 pub(crate) fn year_of(days: u32) -> (u16, u32)
     requires { days < days_before_year 2101 }
     ensures sum { days_before_year result.0 + result.1 ≡ days }

@@ -4,4 +4,4 @@
 pub mod dates;
 mod days;
 pub mod laws;
-pub mod stamps;
+mod stamps;

@@ -1,6 +1,6 @@
 // Known dates and their seconds, both ways, and what is refused.
-use calendar::dates::*;
-use calendar::stamps::*;
+use calendar::dates::{AnotherYear, InvalidStamp, Seconds, Stamp};
+use std::test::Fail;
 
 /// The stamp of a date and a time of day.
 fn stamp(date: (u16, u8, u8), time: (u8, u8, u8)) -> Stamp {
@@ -38,9 +38,9 @@ fn known_stamps(rt: HostRuntime) {
         (stamp((2100, 12, 31), (23, 59, 59)), 4133980799),
     ];
     for (day, at) in known {
-        assert!(rt; is_valid(day));
-        assert_eq!(rt; seconds_of(day), Some(Seconds(at)));
-        assert_eq!(rt; stamp_of(Seconds(at)), Some(day));
+        assert!(rt; day.is_valid());
+        assert_eq!(rt; Seconds::try_from(day), Ok(Seconds(at)));
+        assert_eq!(rt; Stamp::try_from(Seconds(at)), Ok(day));
     }
 }
 
@@ -48,7 +48,7 @@ fn known_stamps(rt: HostRuntime) {
 #[test]
 fn out_of_range(rt: HostRuntime) {
     for at in [-2240524801, 4133980800, i64::MIN, i64::MAX] {
-        assert_eq!(rt; stamp_of(Seconds(at)), None);
+        assert_eq!(rt; Stamp::try_from(Seconds(at)), Err(AnotherYear));
     }
 }
 
@@ -72,7 +72,23 @@ fn invalid_stamps(rt: HostRuntime) {
         stamp((2016, 12, 31), (23, 59, 60)),
     ];
     for day in invalid {
-        assert!(rt; !is_valid(day));
-        assert_eq!(rt; seconds_of(day), None);
+        assert!(rt; !day.is_valid());
+        assert_eq!(rt; Seconds::try_from(day), Err(InvalidStamp));
     }
+}
+
+/// A stamp prints its fields, valid or not.
+#[test]
+fn printed(rt: HostRuntime) -> Result<(), Fail> {
+    let known = [
+        ("2024-03-31T02:00:00", stamp((2024, 3, 31), (2, 0, 0))),
+        ("1899-01-01T23:59:09", stamp((1899, 1, 1), (23, 59, 9))),
+        ("0000-00-00T00:00:00", stamp((0, 0, 0), (0, 0, 0))),
+    ];
+    for (text, day) in known {
+        assert!(rt; format!(in rt.alloc(); "{day}")? == text);
+    }
+    assert!(rt; format!(in rt.alloc(); "{AnotherYear}")? == "another year");
+    assert!(rt; format!(in rt.alloc(); "{InvalidStamp}")? == "no such date and time of day");
+    Ok(())
 }

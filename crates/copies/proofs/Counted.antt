@@ -1,87 +1,63 @@
 -- The digits of a head line, one after another.
-use Rattle.std.proofs.Common.{◌≡◌, ℕ, ◌+◌, ◌<◌, ◌≤◌, Bool, true, false, cond, ◌&&◌, eqb, leb, List, [], ◌∷◌, length, get_or, take, drop, Some, None, codes, Option, sym, refl, ap, ◌∙◌, add-one, arith, drop-cons}
-use Rattle.std.proofs.lemmas.Bool.{cond-true, cond-false, eq-eqb, ne_eqb, le-leb, lt-leb, and_from, and_left, and_right}
-use Rattle.std.proofs.lemmas.List.{drop_all, get_or_past, length-drop}
+use Rattle.std.proofs.Common.{◌≡◌, ℕ, zero, suc, ◌+◌, ◌<◌, ◌≤◌, Bool, true, false, cond, ◌&&◌, eqb, leb, List, [], ◌∷◌, length, get_or, take, drop, Some, None, MatchOption, codes, Option, sym, refl, ap, ◌∙◌, subst, arith}
+use Rattle.std.specs.Option.{option_and_then}
 use Rattle.std.specs.Str.{bytes_eq}
-use Rattle.copies.specs.Heads.{bind, counted_after, first, is_digit, most_bytes, next, parted, told}
+use Rattle.std.proofs.lemmas.Bool.{cond-false, ne_eqb, and_left}
+use Rattle.std.proofs.lemmas.List.{drop_all, drop_more, get_or-drop}
+use Rattle.copies.specs.Heads.{counted_after, is_digit, most_bytes, next, number_after, number_told, told}
 
--- the rest of the digits, by whether the byte is LF and whether it goes on the number
-abbrev pub on : Bool → Bool → ℕ → ℕ → List ℕ → Option (ℕ × List ℕ)
-on lf digit n b bs = cond lf (Some (n, bs)) (cond digit (counted_after (next n b) bs) None)
+-- the place of the first LF, if there is one
+abbrev pub FirstLf : List ℕ → Option ℕ → Type 0
+FirstLf bs r = MatchOption r ((k : ℕ) → k < length bs → get_or bs k 0 ≡ 10 → ⊥) (λ n. (n < length bs) × (get_or bs n 0 ≡ 10) × ((k : ℕ) → k < n → get_or bs k 0 ≡ 10 → ⊥))
 
-pub here : (bs : List ℕ) (i n : ℕ) → i < length bs → counted_after n (drop i bs) ≡ on (eqb (get_or bs i 0) 10) (is_digit (get_or bs i 0) && leb (next n (get_or bs i 0)) most_bytes) n (get_or bs i 0) (drop (i + 1) bs)
-here bs i n h = rw (add-one, drop-cons bs i 0)
+on_digit : (d : Bool) (x : Option (ℕ × List ℕ)) (y : Option ℕ) (f : ℕ → Option (ℕ × List ℕ)) → x ≡ option_and_then f y → cond d x None ≡ option_and_then f (cond d y None)
+on_digit true x y f e = e
+on_digit false x y f e = refl
 
-pub on_by : (lf lf' digit digit' : Bool) (n b : ℕ) (bs : List ℕ) → lf ≡ lf' → digit ≡ digit' → on lf digit n b bs ≡ on lf' digit' n b bs
-on_by lf lf' digit digit' n b bs e f = ap (λ x. on x digit n b bs) e ∙ ap (λ x. on lf' x n b bs) f
+-- as far as no LF stands, the number goes on
+sofar : (bs : List ℕ) (k n : ℕ) → k ≤ length bs → ((j : ℕ) → j < k → get_or bs j 0 ≡ 10 → ⊥) → counted_after n bs ≡ option_and_then (λ m. counted_after m (drop k bs)) (number_after n (take k bs))
+sofar bs zero n h w = refl
+sofar [] (suc k) n h w = absurd (omega arith)
+sofar (b ∷ bs) (suc k) n h w =
+    let d = is_digit b && leb (next n b) most_bytes in
+    let more = sofar bs k (next n b) (omega arith) (λ j l. w (suc j) (omega arith)) in
+    cond-false (eqb b 10) (Some (n, bs)) (cond d (counted_after (next n b) bs) None) (ne_eqb b 10 (w 0 (omega arith)))
+    ∙ on_digit d (counted_after (next n b) bs) (number_after (next n b) (take k bs)) (λ m. counted_after m (drop k bs)) more
 
--- LF ends the number
-pub at_lf : (bs : List ℕ) (i n : ℕ) → i < length bs → get_or bs i 0 ≡ 10 → counted_after n (drop i bs) ≡ counted_after 0 bs → Some (n, drop (i + 1) bs) ≡ counted_after 0 bs
-at_lf bs i n h e inv =
-    let b = get_or bs i 0 in
-    let digit = is_digit b && leb (next n b) most_bytes in
-    sym (on_by (eqb b 10) true digit digit n b (drop (i + 1) bs) (eq-eqb b 10 e) refl) ∙ (sym (here bs i n h) ∙ inv)
+never : (o : Option ℕ) (f : ℕ → Option (ℕ × List ℕ)) → ((m : ℕ) → f m ≡ None) → option_and_then f o ≡ None
+never None f e = refl
+never (Some m) f e = e m
 
--- a byte that is neither LF nor a digit that goes on the number ends it too
-pub at_other : (bs : List ℕ) (i n : ℕ) → i < length bs → (get_or bs i 0 ≡ 10 → ⊥) → (is_digit (get_or bs i 0) && leb (next n (get_or bs i 0)) most_bytes) ≡ false → counted_after n (drop i bs) ≡ counted_after 0 bs → None ≡ counted_after 0 bs
-at_other bs i n h e d inv =
-    let b = get_or bs i 0 in
-    sym (on_by (eqb b 10) false (is_digit b && leb (next n b) most_bytes) false n b (drop (i + 1) bs) (ne_eqb b 10 e) d) ∙ (sym (here bs i n h) ∙ inv)
+counted_none : (bs : List ℕ) → FirstLf bs None → counted_after 0 bs ≡ None
+counted_none bs w = sofar bs (length bs) 0 (omega arith) w ∙ never (number_after 0 (take (length bs) bs)) _ (λ m. ap (counted_after m) (drop_all (length bs) bs (omega arith)))
 
--- a digit goes on the number
-pub at_digit : (bs : List ℕ) (i n m : ℕ) → i < length bs → (get_or bs i 0 ≡ 10 → ⊥) → is_digit (get_or bs i 0) ≡ true → m ≡ next n (get_or bs i 0) → m ≤ most_bytes → counted_after n (drop i bs) ≡ counted_after 0 bs → counted_after m (drop (i + 1) bs) ≡ counted_after 0 bs
-at_digit bs i n m h e d s l inv =
-    let b = get_or bs i 0 in
-    let f : leb (next n b) most_bytes ≡ true = ap (λ x. leb x most_bytes) (sym s) ∙ le-leb m most_bytes l in
-    ap (λ x. counted_after x (drop (i + 1) bs)) s ∙ (sym (on_by (eqb b 10) false (is_digit b && leb (next n b) most_bytes) true n b (drop (i + 1) bs) (ne_eqb b 10 e) (and_from (is_digit b) (leb (next n b) most_bytes) d f)) ∙ (sym (here bs i n h) ∙ inv))
+counted_some : (bs : List ℕ) (k : ℕ) → FirstLf bs (Some k) → counted_after 0 bs ≡ option_and_then (λ m. Some (m, drop (k + 1) bs)) (number_after 0 (take k bs))
+counted_some bs k f =
+    let e : drop k bs ≡ 10 ∷ drop (k + 1) bs = drop_more bs k 0 f.0 ∙ ap (λ b. b ∷ drop (k + 1) bs) f.1 in
+    sofar bs k 0 (omega (arith, f.0)) f.2 ∙ ap (λ l. option_and_then (λ m. counted_after m l) (number_after 0 (take k bs))) e
 
--- the bytes after the LF are fewer
-step_shorter : (lf digit : Bool) (n b : ℕ) (bs : List ℕ) (r : ℕ × List ℕ) → ((m : ℕ) → Some r ≡ counted_after m bs → length r.1 < length bs) → Some r ≡ on lf digit n b bs → length r.1 < length (b ∷ bs)
-step_shorter true digit n b bs r ih e =
-    let f : r ≡ (n, bs) = cc in
-    let g = ap (λ (x : ℕ × List ℕ). length x.1) f in
-    omega arith
-step_shorter false true n b bs r ih e = omega (arith, ih (next n b) e)
-step_shorter false false n b bs r ih e = let z : ◌≡◌ {A = ℕ} 0 1 = cc in omega arith
+line_some : (l : List ℕ) (k : ℕ) → FirstLf l (Some k) → cond (is_digit (get_or l 0 0)) (counted_after 0 l) None ≡ option_and_then (λ m. Some (m, drop (k + 1) l)) (number_told (take k l))
+line_some [] k f = absurd (omega (arith, f.0))
+line_some (b ∷ bs) zero f = cond-false (is_digit b) _ None (ap is_digit f.1)
+line_some (b ∷ bs) (suc k) f = by (is_digit b) refl where
+  by : (d : Bool) → is_digit b ≡ d → cond d (counted_after 0 (b ∷ bs)) None ≡ option_and_then (λ m. Some (m, drop (suc k + 1) (b ∷ bs))) (number_told (take (suc k) (b ∷ bs)))
+  by true e = counted_some (b ∷ bs) (suc k) f
+  by false e = ap (option_and_then (λ m. Some (m, drop (suc k + 1) (b ∷ bs)))) (sym (cond-false (is_digit b && leb (next 0 b) most_bytes) (number_after (next 0 b) (take k bs)) None (and_left (is_digit b) (leb (next 0 b) most_bytes) e)))
 
-pub counted_shorter : (bs : List ℕ) (n : ℕ) (r : ℕ × List ℕ) → Some r ≡ counted_after n bs → length r.1 < length bs
-counted_shorter [] n r e = let z : ◌≡◌ {A = ℕ} 0 1 = cc in omega arith
-counted_shorter (b ∷ bs) n r e = step_shorter (eqb b 10) (is_digit b && leb (next n b) most_bytes) n b bs r (λ m f. counted_shorter bs m r f) e
+told_by : (bytes : List ℕ) → bytes_eq (take 5 bytes) (codes "text ") ≡ true → told bytes ≡ cond (is_digit (get_or (drop 5 bytes) 0 0)) (counted_after 0 (drop 5 bytes)) None
+told_by bytes w = ap (λ x. cond (x && is_digit (get_or bytes 5 0)) (counted_after 0 (drop 5 bytes)) None) w ∙ ap (λ b. cond (is_digit b) (counted_after 0 (drop 5 bytes)) None) (sym (get_or-drop 5 bytes 0 0))
 
-kept : (t : Bool) (x : Option (ℕ × List ℕ)) (r : ℕ × List ℕ) → Some r ≡ cond t x None → Some r ≡ x
-kept true x r e = e
-kept false x r e = cc
+-- with an LF after the word
+pub told_some : (bytes line : List ℕ) (k : ℕ) → bytes_eq (take 5 bytes) (codes "text ") ≡ true → line ≡ drop 5 bytes → FirstLf line (Some k) → told bytes ≡ option_and_then (λ m. Some (m, drop (k + 1) line)) (number_told (take k line))
+told_some bytes line k w e f =
+    subst (λ l. FirstLf l (Some k) → told bytes ≡ option_and_then (λ m. Some (m, drop (k + 1) l)) (number_told (take k l))) (sym e) (λ g. told_by bytes w ∙ line_some (drop 5 bytes) k g) f
 
-pub told_shorter : (input : List ℕ) (r : ℕ × List ℕ) → Some r ≡ told input → length r.1 < length input
-told_shorter input r e =
-    let f = counted_shorter (drop 5 input) 0 r (kept (bytes_eq (take 5 input) (codes "text ") && is_digit (get_or input 5 0)) (counted_after 0 (drop 5 input)) r e) in
-    omega (arith, length-drop 5 input)
-
--- no head line
-pub untold : (bytes : List ℕ) → (bytes_eq (take 5 bytes) (codes "text ") && is_digit (get_or bytes 5 0)) ≡ false → None ≡ told bytes
-untold bytes h = sym (cond-false (bytes_eq (take 5 bytes) (codes "text ") && is_digit (get_or bytes 5 0)) (counted_after 0 (drop 5 bytes)) None h)
-
-pub no_digit : (bytes : List ℕ) → is_digit (get_or bytes 5 0) ≡ false → None ≡ told bytes
-no_digit bytes h = untold bytes (and_right (bytes_eq (take 5 bytes) (codes "text ")) (is_digit (get_or bytes 5 0)) h)
-
-pub no_word : (bytes : List ℕ) → bytes_eq (take 5 bytes) (codes "text ") ≡ false → None ≡ told bytes
-no_word bytes h = untold bytes (and_left (bytes_eq (take 5 bytes) (codes "text ")) (is_digit (get_or bytes 5 0)) h)
-
-pub too_few : (bytes : List ℕ) → length bytes < 6 → None ≡ told bytes
-too_few bytes h = no_digit bytes (ap is_digit (get_or_past bytes 5 0 (omega arith)))
-
--- a head line
-pub is_told : (bytes : List ℕ) → bytes_eq (take 5 bytes) (codes "text ") ≡ true → is_digit (get_or bytes 5 0) ≡ true → counted_after 0 (drop 5 bytes) ≡ told bytes
-is_told bytes h d = sym (cond-true (bytes_eq (take 5 bytes) (codes "text ") && is_digit (get_or bytes 5 0)) (counted_after 0 (drop 5 bytes)) None (and_from (bytes_eq (take 5 bytes) (codes "text ")) (is_digit (get_or bytes 5 0)) h d))
-
--- the text after the head line
-pub is_first : (input rest : List ℕ) (n : ℕ) → Some (n, rest) ≡ told input → n ≤ length rest → Some (take n rest, drop n rest) ≡ first input
-is_first input rest n e l = sym (cond-true (leb n (length rest)) (Some (take n rest, drop n rest)) None (le-leb n (length rest) l)) ∙ ap (λ x. bind x parted) e
-
--- the text is cut off
-pub no_first : (input rest : List ℕ) (n : ℕ) → Some (n, rest) ≡ told input → length rest < n → None ≡ first input
-no_first input rest n e l = sym (cond-false (leb n (length rest)) (Some (take n rest, drop n rest)) None (lt-leb n (length rest) l)) ∙ ap (λ x. bind x parted) e
-
--- no LF came
-pub ended : (bs : List ℕ) (i n : ℕ) → length bs ≤ i → counted_after n (drop i bs) ≡ counted_after 0 bs → None ≡ counted_after 0 bs
-ended bs i n h inv = ap (counted_after n) (sym (drop_all i bs h)) ∙ inv
+-- with none
+pub told_none : (bytes line : List ℕ) → bytes_eq (take 5 bytes) (codes "text ") ≡ true → line ≡ drop 5 bytes → FirstLf line None → told bytes ≡ None
+told_none bytes line w e h =
+    let f = counted_none (drop 5 bytes) (subst (λ l. FirstLf l None) e h) in
+    told_by bytes w ∙ ap (λ x. cond (is_digit (get_or (drop 5 bytes) 0 0)) x None) f ∙ same (is_digit (get_or (drop 5 bytes) 0 0))
+  where
+    same : (d : Bool) → cond {A = Option (ℕ × List ℕ)} d None None ≡ None
+    same true = refl
+    same false = refl

@@ -6,7 +6,6 @@ ghost use Rattle.zonetext.specs.Reading.{LeftAlone, reading, told, zone_in};
 ghost use Rattle.copies.specs.Copies.{Copies, fitting, named, overlaid};
 
 use super::copied::Copied;
-use super::parting::same;
 use names::name::Name;
 use zone::refusals::Refusal;
 use zone::windows::Window;
@@ -19,16 +18,8 @@ fn rewrite(name: Name, window: &Window, text: &[u8], buffer: &mut [u8]) -> Optio
     ensures is { result ≡ fitting (length text.now) (length buffer.old) }
     ensures after { buffer.new ≡ overlaid text.now buffer.old }
 {
-    match write(name, window, buffer) {
-        Ok(n) => {
-            if same(&buffer[0..n], text) {
-                Some(n)
-            } else {
-                None
-            }
-        }
-        Err(_) => None,
-    }
+    let n = write(name, window, buffer).ok()?;
+    (&buffer[..n] == text).then_some(n)
 }
 
 /// Reads the text into the window, and writes what was read into the buffer: the same bytes come again, where the buffer has room for them.

@@ -1,7 +1,8 @@
 -- A date with a time is read from its text, and from no other.
-use Rattle.std.proofs.Common.{◌≡◌, ℕ, ◌+◌, ◌-◌, ◌*◌, ◌/◌, ◌%◌, ◌<◌, true, List, ◌∷◌, ◌++◌, Some, None, sym, refl, ap, ◌∙◌, subst, arith}
+use Rattle.std.proofs.Common.{◌≡◌, ℕ, ◌+◌, ◌-◌, ◌*◌, ◌/◌, ◌%◌, ◌<◌, true, List, ◌∷◌, ◌++◌, Option, Some, None, Bool, false, IsTrue, ◌↔◌, MatchOption, sym, refl, ap, ◌∙◌, subst, arith}
+use Rattle.std.specs.Bool.{then_some}
 use Rattle.std.proofs.lemmas.Slice.Eq.{text_from_reads}
-use Rattle.std.proofs.lemmas.Bool.{lt-ltb, ltb-true, le-leb, leb-true, and_from, and_parts}
+use Rattle.std.proofs.lemmas.Bool.{true≢false, lt-ltb, ltb-true, le-leb, leb-true, and_from, and_parts}
 use Rattle.calendar.specs.declared.dates.Stamp.{Stamp}
 use Rattle.calendar.specs.Calendar.{Valid}
 use Rattle.calendar.proofs.Unique.{month_days_le}
@@ -125,3 +126,9 @@ invalid_read t d w never =
     (λ e h p.
     let v = valid_from e h in
     never (subst (λ x. Valid x) (sym (guess_back t e (subst (λ l. DigitsSay l e) (sym p) (valid_digits e v))) ∙ guess_back t d w) v))
+
+-- the digits are read first, and then the stamp is tested
+pub filtered : (t : List ℕ) (r o : Option Stamp) (tests : Stamp → Bool → Type 0) → ((d : Stamp) (b : Bool) → tests d b → IsTrue b ↔ Valid d) → DigitsRead t r → MatchOption r (o ≡ None) (λ d. (b : Bool) × tests d b × (o ≡ then_some b d)) → o ≡ stamp_read t
+filtered t None o tests h w e = e ∙ no_digits t w
+filtered t (Some d) o tests h w (true, k, e) = e ∙ valid_read t d w ((h d true k).0 refl)
+filtered t (Some d) o tests h w (false, k, e) = e ∙ invalid_read t d w (λ v. true≢false (sym ((h d false k).1 v)))

@@ -2,6 +2,5 @@
 pub mod Checking
 pub mod Clocks
 pub mod Parsing
-pub mod Printing
 pub mod Dates
 pub mod Shapes

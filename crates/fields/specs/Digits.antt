@@ -1,5 +1,5 @@
 -- Two digits in a text, and the reading of a text by a guess that is checked.
-use Rattle.std.specs.Prelude.{◌≡◌, ℕ, ◌+◌, ◌-◌, ◌*◌, ◌/◌, ◌%◌, ◌<◌, Bool, cond, ◌&&◌, List, [], ◌∷◌, Some, None, Option, slice_index}
+use Rattle.std.specs.Prelude.{◌≡◌, ℕ, ◌+◌, ◌-◌, ◌*◌, ◌/◌, ◌%◌, ◌<◌, Bool, if◌then◌else◌, ◌&&◌, List, [], ◌∷◌, Some, None, Option, slice_index}
 use Rattle.std.specs.Str.{bytes_eq}
 
 -- the two digits of a number below 100
@@ -23,4 +23,4 @@ number_at t i = (slice_index t i - 48) * 10 + (slice_index t (i + 1) - 48)
 
 -- the value that is guessed from a text, if it is allowed and the text is its print
 abbrev pub checked : {X : Type 0} → (X → Bool) → (X → List ℕ) → (List ℕ → X) → List ℕ → Option X
-checked allowed print guess t = cond (allowed (guess t) && bytes_eq t (print (guess t))) (Some (guess t)) None
+checked allowed print guess t = if allowed (guess t) && bytes_eq t (print (guess t)) then Some (guess t) else None

@@ -1,7 +1,7 @@
 -- The text of an offset from UTC, and the offset that a text says.
-use Rattle.std.specs.Prelude.{◌≡◌, ℕ, ◌+◌, ◌-◌, ◌*◌, ◌/◌, ◌%◌, ◌<◌, Bool, cond, ◌⊎◌, List, [], ◌∷◌, ◌++◌, length, take, drop, replicate, ℤ, pos, negsuc, neg_ℤ, Some, None, Option, ◌==◌, ◌≢◌, nat_lt, slice_index, slice_index_or, unsigned_abs}
+use Rattle.std.specs.Prelude.{◌≡◌, ℕ, ◌+◌, ◌*◌, ◌/◌, ◌%◌, ◌<◌, Bool, if◌then◌else◌, ◌⊎◌, List, [], ◌∷◌, ◌++◌, length, ℤ, pos, negsuc, neg_ℤ, Some, None, Option, ◌==◌, ◌≢◌, nat_lt, slice_index, unsigned_abs}
+use Rattle.arrayvec.specs.ArrayVec.{ArrayVec}
 use Rattle.fields.specs.declared.types.Offset.{Offset}
-use Rattle.fields.specs.declared.types.OffsetText.{OffsetText}
 use Rattle.fields.specs.Digits.{two, number_at, checked, TwoSay}
 
 -- an offset by its seconds
@@ -23,7 +23,7 @@ in_day z = nat_lt (unsigned_abs z.0) 86400
 
 -- the seconds, which stand only where they are not 00
 abbrev pub seconds_part : ℕ → List ℕ
-seconds_part s = cond (s == 0) [] (two s)
+seconds_part s = if s == 0 then [] else two s
 
 -- hours, minutes and perhaps seconds
 abbrev pub clock_text : ℕ → List ℕ
@@ -35,11 +35,11 @@ printed z = sign z.0 ∷ clock_text (unsigned_abs z.0)
 
 -- the seconds that the digits after the sign say
 abbrev pub clock : List ℕ → ℕ
-clock t = number_at t 1 * 3600 + number_at t 3 * 60 + cond (length t == 5) 0 (number_at t 5)
+clock t = number_at t 1 * 3600 + number_at t 3 * 60 + (if length t == 5 then 0 else number_at t 5)
 
 -- the offset that a text says, if it is the text of one
 abbrev pub offset_guess : List ℕ → Offset
-offset_guess t = offset (cond (slice_index t 0 == 43) (pos (clock t)) (neg_ℤ (pos (clock t))))
+offset_guess t = offset (if slice_index t 0 == 43 then pos (clock t) else neg_ℤ (pos (clock t)))
 
 -- the offset whose text this is
 unfoldable pub parsed : List ℕ → Option Offset
@@ -71,23 +71,12 @@ abbrev pub Signed : ℕ → ℕ → Option Offset → Type 0
 Signed b n None = (z : Offset) → SignSays b n z → ⊥
 Signed b n (Some z) = SignSays b n z
 
--- seven bytes: a sign and the digits of a size, with a length that leaves seconds of 00 out
-pub record TextSays (b n : ℕ) (t : OffsetText) : Type 0 where
-  pub first : slice_index_or t.bytes 0 0 ≡ b
-  pub hours : TwoSay (slice_index t.bytes 1) (slice_index t.bytes 2) 24 (n / 3600)
-  pub minutes : TwoSay (slice_index t.bytes 3) (slice_index t.bytes 4) 60 (n / 60 % 60)
-  pub seconds : TwoSay (slice_index t.bytes 5) (slice_index t.bytes 6) 60 (n % 60)
-  pub all : length t.bytes ≡ 7
-  pub size : t.len ≡ cond (n % 60 == 0) 5 7
-
--- an offset in range is printed: its text stands first, and after it zero digits
-pub record PrintedAs (z : Offset) (t : OffsetText) : Type 0 where
+-- an offset in range is printed
+pub record PrintedAs (z : Offset) (t : ArrayVec ℕ) : Type 0 where
   pub range : InDay z
-  pub len : t.len ≡ length (printed z)
-  pub text : take t.len t.bytes ≡ printed z
-  pub rest : drop t.len t.bytes ≡ replicate (7 - t.len) 48
+  pub text : t.items ≡ printed z
 
 -- the print of an offset: none exactly if it is a day or more
-abbrev pub Printed : Offset → Option OffsetText → Type 0
+abbrev pub Printed : Offset → Option (ArrayVec ℕ) → Type 0
 Printed z None = InDay z → ⊥
 Printed z (Some t) = PrintedAs z t

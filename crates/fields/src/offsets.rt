@@ -1,8 +1,9 @@
 // Offsets from UTC, read from their texts and printed.
+// Functions, as for stamps, and no `TryFrom`: a stamp is another crate's type, so its conversions from and to texts cannot be impls here.
 ghost use Rattle.std.specs.Prelude.{◌≡◌, ◌<◌};
-ghost use Rattle.fields.specs.Offsets.{ClockRead, Printed, Signed, TextSays, parsed};
+ghost use Rattle.fields.specs.Offsets.{ClockRead, Printed, Signed, parsed};
 
-use super::digits::two_digits;
+use super::digits::{ones, tens, two_digits};
 use super::types::{Offset, OffsetText};
 
 /// The offset whose text this is.
@@ -27,7 +28,7 @@ fn clock(text: &[u8]) -> Option<u32>
         return Some(n);
     }
     let s = two_digits(text, 5, 60)?;
-    if s == 0 { None } else { Some(n + s as u32) }
+    (s > 0).then_some(n + s as u32)
 }
 
 /// The offset of this size with this sign; there is no zero below zero.
@@ -43,6 +44,7 @@ fn signed(sign: u8, size: u32) -> Option<Offset>
 }
 
 /// The text of an offset of less than a day.
+#[tactic(auto, unfolding(crate::specs::Offsets::printed))]
 pub fn print_offset(offset: Offset) -> Option<OffsetText>
     ensures { Printed offset result }
 {
@@ -51,26 +53,12 @@ pub fn print_offset(offset: Offset) -> Option<OffsetText>
         return None;
     }
     let sign = if offset.0 < 0 { b'-' } else { b'+' };
-    Some(clock_text(sign, size))
-}
-
-/// The text of a sign and a size.
-fn clock_text(sign: u8, size: u32) -> OffsetText
-    requires { size < 86400 }
-    ensures { TextSays sign size result }
-{
     let h = (size / 3600) as u8;
     let m = (size / 60 % 60) as u8;
     let s = (size % 60) as u8;
-    let len = if s == 0 { 5 } else { 7 };
-    let bytes = [
-        sign,
-        b'0' + h / 10,
-        b'0' + h % 10,
-        b'0' + m / 10,
-        b'0' + m % 10,
-        b'0' + s / 10,
-        b'0' + s % 10,
-    ];
-    OffsetText { bytes, len }
+    let mut text = OffsetText::from([sign, tens(h), ones(h), tens(m), ones(m), tens(s), ones(s)]);
+    if s == 0 {
+        text.truncate(5);
+    }
+    Some(text)
 }

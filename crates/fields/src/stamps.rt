@@ -1,18 +1,16 @@
 // Dates with times, read from their texts and printed.
-ghost use Rattle.std.specs.Prelude.{◌≡◌, ◌<◌};
-ghost use Rattle.calendar.specs.Calendar.{Valid};
-ghost use Rattle.fields.specs.Stamps.{DigitsRead, DigitsSay, StampPrinted, stamp_read};
+// Functions and no `TryFrom`: a stamp is another crate's type, so its conversions from and to texts cannot be impls here.
+ghost use Rattle.std.specs.Prelude.{◌≡◌};
+ghost use Rattle.fields.specs.Stamps.{DigitsRead, StampPrinted, stamp_read};
 
-use super::digits::two_digits;
+use super::digits::{ones, tens, two_digits};
 use calendar::dates::Stamp;
-use calendar::stamps::is_valid;
 
 /// The date with a time whose text this is.
 pub fn parse_stamp(text: &[u8]) -> Option<Stamp>
     ensures { result ≡ stamp_read text.now }
 {
-    let stamp = stamp_digits(text)?;
-    if is_valid(stamp) { Some(stamp) } else { None }
+    stamp_digits(text).filter(|stamp| stamp.is_valid())
 }
 
 /// The stamp, perhaps no valid one, that the digits say.
@@ -41,38 +39,30 @@ fn stamp_digits(text: &[u8]) -> Option<Stamp>
 }
 
 /// The text of a valid date with a time.
+#[tactic(auto, unfolding(crate::specs::Stamps::stamp_text))]
 pub fn print_stamp(stamp: Stamp) -> Option<[u8; 15]>
     ensures { StampPrinted stamp result }
 {
-    if is_valid(stamp) {
-        Some(stamp_bytes(stamp))
-    } else {
-        None
+    if !stamp.is_valid() {
+        return None;
     }
-}
-
-/// The bytes of that text.
-fn stamp_bytes(stamp: Stamp) -> [u8; 15]
-    requires { (Valid stamp) × (stamp.day < 100) }
-    ensures { DigitsSay result stamp }
-{
     let century = (stamp.year / 100) as u8;
     let year = (stamp.year % 100) as u8;
-    [
-        b'0' + century / 10,
-        b'0' + century % 10,
-        b'0' + year / 10,
-        b'0' + year % 10,
-        b'0' + stamp.month / 10,
-        b'0' + stamp.month % 10,
-        b'0' + stamp.day / 10,
-        b'0' + stamp.day % 10,
+    Some([
+        tens(century),
+        ones(century),
+        tens(year),
+        ones(year),
+        tens(stamp.month),
+        ones(stamp.month),
+        tens(stamp.day),
+        ones(stamp.day),
         b'T',
-        b'0' + stamp.hour / 10,
-        b'0' + stamp.hour % 10,
-        b'0' + stamp.minute / 10,
-        b'0' + stamp.minute % 10,
-        b'0' + stamp.second / 10,
-        b'0' + stamp.second % 10,
-    ]
+        tens(stamp.hour),
+        ones(stamp.hour),
+        tens(stamp.minute),
+        ones(stamp.minute),
+        tens(stamp.second),
+        ones(stamp.second),
+    ])
 }

@@ -3,10 +3,10 @@
 
 mod printing;
 
-use anyhow::anyhow;
+use anyhow::bail;
 use copies::copying::copy;
 use copies::parting::first_text;
-use printing::{print_copy, print_refusal};
+use printing::print_copy;
 use std::io::Read;
 use zone::windows::Window;
 
@@ -21,15 +21,15 @@ fn run(
     buffer: &mut [u8],
 ) -> anyhow::Result<()> {
     let mut rest = input;
-    while rest.len() > 0 {
+    while !rest.is_empty() {
         let Some(part) = first_text(rest) else {
             let at = input.len().saturating_sub(rest.len());
             println!(rt; "byte {at}: not understood")?;
-            return Err(anyhow!("the input is at fault"));
+            bail!("the input is at fault");
         };
         match copy(part.text, window, buffer) {
             Ok(copied) => print_copy(rt, copied, window)?,
-            Err(refusal) => print_refusal(rt, refusal)?,
+            Err(refusal) => println!(rt; "{refusal}")?,
         }
         rest = part.more;
     }

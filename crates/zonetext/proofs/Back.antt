@@ -1,5 +1,5 @@
 -- The text of a zone reads as that zone. Assumes nothing.
-use Rattle.std.proofs.Common.{◌≡◌, ℕ, ◌+◌, ◌<◌, ◌≤◌, true, false, not, ◌&&◌, eqb, ltb, leb, List, [], ◌∷◌, ◌++◌, length, ℤ, pos, ◌+ℤ◌, ◌-ℤ◌, Some, None, codes, sym, refl, ap, ◌∙◌, subst, arith}
+use Rattle.std.proofs.Common.{◌≡◌, ℕ, ◌+◌, ◌<◌, ◌≤◌, true, not, ◌&&◌, eqb, ltb, leb, List, [], ◌∷◌, ◌++◌, length, ℤ, pos, ◌+ℤ◌, ◌-ℤ◌, Some, None, codes, sym, refl, ap, ◌∙◌, subst, arith}
 use lib.Signed.{lt_z, le_z}
 use Rattle.std.specs.List.{AllByRecursion as All}
 use Rattle.std.specs.Str.{bytes_eq}
@@ -24,7 +24,7 @@ use Rattle.names.specs.Names.{name_byte, name_bytes, is_text, spelled}
 use Rattle.zone.specs.Refusals.{answered}
 use Rattle.zone.specs.Rows.{window_rows}
 use Rattle.zonetext.specs.declared.places.Part.TheVariants.{Empty, Started, Left, Full}
-use Rattle.zonetext.specs.declared.places.Place.TheVariants.{Before, Head, Between, Inside, After}
+use Rattle.zonetext.specs.declared.places.Place.TheVariants.{Before, Head, Named, Between, Inside, After}
 use Rattle.zonetext.specs.Laws.{ReadsAs, OneText, TextsStand}
 use Rattle.zonetext.specs.Lines.{Lines, rest, line, unlines, cut, Said, begin, end, property, said, split}
 use Rattle.zonetext.specs.Reading.{State, Zone, zone, state, start, component, row_of, may_come, closed, step, zone_read, run, reading}
@@ -128,13 +128,13 @@ taken : (s s' : State) (o : ℕ) (l : List ℕ) (w : Said) (ls : Lines) → said
 taken s s' o l w ls e f = run_on s s' o l ls (ap (step s) e ∙ f)
 
 module _ (n : List ℕ) (u : Instant) (rs : List Row) where
-  step_open : step (state Before n u rs) (begin (codes "VTIMEZONE")) ≡ Some (state (Head false) n u rs)
+  step_open : step (state Before n u rs) (begin (codes "VTIMEZONE")) ≡ Some (state Head n u rs)
   step_open = refl
 
-  step_name : (m : List ℕ) → is_text m ≡ true → step (state (Head false) n u rs) (property (codes "TZID") m) ≡ Some (state (Head true) m u rs)
-  step_name m h = cond-true (is_text m) (Some (state (Head true) m u rs)) None h
+  step_name : (m : List ℕ) → is_text m ≡ true → step (state Head n u rs) (property (codes "TZID") m) ≡ Some (state Named m u rs)
+  step_name m h = cond-true (is_text m) (Some (state Named m u rs)) None h
 
-  step_until : (z : ℤ) → lt_z era.start z ≡ true → le_z z era.end ≡ true → step (state (Head true) n u rs) (property (codes "TZUNTIL") (until_text z)) ≡ Some (state Between n (record { 0 = z }) rs)
+  step_until : (z : ℤ) → lt_z era.start z ≡ true → le_z z era.end ≡ true → step (state Named n u rs) (property (codes "TZUNTIL") (until_text z)) ≡ Some (state Between n (record { 0 = z }) rs)
   step_until z a b = ap (λ o. after o (λ v. Some (state Between n v rs))) (until_there z a b)
 
   step_row : (o : Observance) → length rs < window_rows → step (state Between n u rs) (begin (component o)) ≡ Some (state (Inside o Empty) n u rs)
@@ -204,9 +204,9 @@ back z h =
     reading_is (text_of z)
     ∙ ap (λ t. run start 0 (cut t)) (sym (text_unlined n u rs))
     ∙ ap (run start 0) (cut_lines n u rs m.0 (end_range z.interval s.in_era) (rows_writable window_rows z.interval rs s))
-    ∙ taken (state Before [] first []) (state (Head false) [] first []) 0 _ _ _ (said_begin (codes "VTIMEZONE")) (step_open [] first [])
-    ∙ taken (state (Head false) [] first []) (state (Head true) n first []) _ _ _ _ (said_name n) (step_name [] first [] n m.0)
-    ∙ taken (state (Head true) n first []) (state Between n last []) _ _ _ _ (said_until (until_text u)) (step_until n first [] u late early)
+    ∙ taken (state Before [] first []) (state Head [] first []) 0 _ _ _ (said_begin (codes "VTIMEZONE")) (step_open [] first [])
+    ∙ taken (state Head [] first []) (state Named n first []) _ _ _ _ (said_name n) (step_name [] first [] n m.0)
+    ∙ taken (state Named n first []) (state Between n last []) _ _ _ _ (said_until (until_text u)) (step_until n first [] u late early)
     ∙ run_rows rs n last [] _ (rows_writable window_rows z.interval rs s) early (sound_kept window_rows z.interval rs s) s.covers.begins.0 s.few
     ∙ (λ i. answered (made (m.1 i) (s.covers.begins.1 i)))
 

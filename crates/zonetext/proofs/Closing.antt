@@ -1,35 +1,19 @@
 -- A row that is read, and whether it may come next. Assumes nothing.
-use Rattle.std.proofs.Common.{◌≡◌, ℕ, ◌+◌, ◌-◌, ◌<◌, ◌≤◌, Bool, true, false, ◌&&◌, ◌||◌, eqb, List, [], ◌∷◌, ◌++◌, length, take, set, ℤ, pos, negsuc, Some, None, sym, ap, ◌∙◌, inl, inr, arith, w64, SFits}
+use Rattle.std.proofs.Common.{◌≡◌, ◌-◌, ◌<◌, Bool, true, false, ◌&&◌, ◌||◌, eqb, List, length, ℤ, pos, negsuc, Some, None, MatchOption, Option, Bor, sym, ap, ◌∙◌, inl, inr, arith, w64, SFits}
 use lib.Signed.{lt_z, le_z}
-use Rattle.std.proofs.lemmas.List.{take_more_set, length-take-le, get_or-take}
-use Rattle.std.proofs.lemmas.Bool.{cases_Bool, cond-true, cond-false, and_left, and_parts, ne_eqb, leb-true, ltb-true}
+use Rattle.std.proofs.lemmas.Bool.{cases_Bool, cond-false, and_from, and_left, and_parts, or_left, eq-eqb, ne_eqb, leb-true, ltb-true}
 use Rattle.zone.specs.declared.rows.Instant.{Instant}
 use Rattle.zone.specs.declared.rows.Row.{Row}
 use Rattle.zone.specs.Intervals.{era, has_instant}
-use Rattle.zone.specs.Rows.{at, no_row}
-use Rattle.zonetext.specs.declared.places.Place.{Place}
-use Rattle.zonetext.specs.declared.places.Place.TheVariants.{Between}
-use Rattle.zonetext.specs.Reading.{State, state, inside, follows, may_come, closed}
+use Rattle.zone.specs.Rows.{at}
+use Rattle.zonetext.specs.Reading.{State, inside, follows, may_come, closed}
 
--- the last of the first n rows
-last_of : (rows : List Row) (n : ℕ) → n ≤ length rows → 0 < n → at (take n rows) (length (take n rows) - 1) ≡ at rows (n - 1)
-last_of rows n h k =
-    let l = length-take-le n rows h in
-    ap (λ m. at (take n rows) (m - 1)) l ∙ get_or-take n rows (n - 1) no_row (omega arith)
-
--- a row after the first
-pub comes_later : (u : Instant) (rows : List Row) (n : ℕ) (row : Row) (r : Bool) → n ≤ length rows → (n ≡ 0 → ⊥) → true ≡ inside u row → r ≡ follows (at rows (n - 1)) row → r ≡ may_come u (take n rows) row
-comes_later u rows n row r h k i e =
-    let l = length-take-le n rows h in
-    let z : eqb (length (take n rows)) 0 ≡ false = ne_eqb _ _ (λ q. k (sym l ∙ q)) in
-    let f : r ≡ follows (at (take n rows) (length (take n rows) - 1)) row = e ∙ ap (λ x. follows x row) (sym (last_of rows n h (omega arith))) in
-    f ∙ (λ j. i j && (sym z j || follows (at (take n rows) (length (take n rows) - 1)) row))
-
--- the row is taken
-pub close_yes : (p : Place) (name : List ℕ) (u : Instant) (rows : List Row) (n : ℕ) (row given : Row) → n < length rows → row ≡ given → true ≡ may_come u (take n rows) row → closed (state p name u (take n rows)) given ≡ Some (state Between name u (take (n + 1) (set rows n row)))
-close_yes p name u rows n row given h e m =
-    cond-true (may_come u (take n rows) given) _ None (ap (may_come u (take n rows)) (sym e) ∙ sym m)
-    ∙ ap (λ l. Some (state Between name u l)) (ap (λ r. take n rows ++ r ∷ []) (sym e) ∙ sym (take_more_set rows n row h))
+-- the row goes on from the last one, if there is one
+pub comes_next : (u : Instant) (rows : List Row) (last : Option (Bor Row)) (row : Row) (r : Bool) → MatchOption last (length rows ≡ 0) (λ x. (0 < length rows) × (x.now ≡ at rows (length rows - 1))) → inside u row ≡ true → MatchOption last (r ≡ true) (λ x. r ≡ follows x.now row) → r ≡ may_come u rows row
+comes_next u rows None row r l i f = f ∙ sym (and_from (inside u row) _ i (or_left (eqb (length rows) 0) (follows (at rows (length rows - 1)) row) (eq-eqb _ _ l)))
+comes_next u rows (Some x) row r l i f =
+    let z : eqb (length rows) 0 ≡ false = ne_eqb _ _ (λ q. omega (arith, l.0)) in
+    f ∙ ap (λ y. follows y row) l.1 ∙ (λ j. sym i j && (sym z j || follows (at rows (length rows - 1)) row))
 
 -- an onset that no number holds lies outside the era
 fits_era : (z : ℤ) → le_z era.start z ≡ true → lt_z z era.end ≡ true → SFits w64 z

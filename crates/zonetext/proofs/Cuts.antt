@@ -1,12 +1,12 @@
--- A loop over the bytes of a text finds its first line, and over those of a line its first colon. Assumes nothing.
-use Rattle.std.proofs.Common.{◌≡◌, ℕ, ◌+◌, ◌-◌, ◌<◌, ◌≤◌, true, false, ◌&&◌, eqb, List, [], ◌∷◌, ◌++◌, length, get_or, take, drop, codes, sym, refl, ap, ◌∙◌, ⊎_elim, arith}
+-- The first CR LF of a text ends its first line, and the first colon of a line parts it. Assumes nothing.
+use Rattle.std.proofs.Common.{◌≡◌, ℕ, zero, suc, ◌+◌, ◌-◌, ◌<◌, ◌≤◌, true, false, ◌&&◌, eqb, List, [], ◌∷◌, ◌++◌, length, get_or, take, drop, Some, None, MatchOption, Option, codes, sym, refl, ap, ◌∙◌, subst, ⊎_elim, arith}
 use Rattle.std.proofs.lemmas.List.{drop_more, take_more, append-nil, take-append-drop, length-drop, drop_all, take_rest}
 use Rattle.std.proofs.lemmas.Bool.{eq-eqb, ne_eqb, cases_eq, cond-true, cond-false, and_left, and_right}
 use Rattle.std.specs.Str.{bytes_eq}
 use Rattle.zonetext.specs.Lines.{Lines, rest, line, glue, cut, whole, apart, grow, split, begin, end, property, odd, said, said_by}
 
 -- f at each byte, from the last to the first
-abbrev pub each : {K : Type 0} → (ℕ → K → K) → List ℕ → K → K
+abbrev each : {K : Type 0} → (ℕ → K → K) → List ℕ → K → K
 each f [] k = k
 each f (c ∷ cs) k = f c (each f cs k)
 
@@ -15,10 +15,10 @@ each_push f [] x k = refl
 each_push f (c ∷ cs) x k = ap (f c) (each_push f cs x k)
 
 -- F of the text is f of each byte so far, over F of what is left
-abbrev pub Sofar : {K : Type 0} → (List ℕ → K) → (ℕ → K → K) → List ℕ → ℕ → Type 0
+abbrev Sofar : {K : Type 0} → (List ℕ → K) → (ℕ → K → K) → List ℕ → ℕ → Type 0
 Sofar F f t i = F t ≡ each f (take i t) (F (drop i t))
 
-pub sofar_more : {K : Type 0} (F : List ℕ → K) (f : ℕ → K → K) (t : List ℕ) (i : ℕ) → i < length t → F (drop i t) ≡ f (get_or t i 0) (F (drop (i + 1) t)) → Sofar F f t i → Sofar F f t (i + 1)
+sofar_more : {K : Type 0} (F : List ℕ → K) (f : ℕ → K → K) (t : List ℕ) (i : ℕ) → i < length t → F (drop i t) ≡ f (get_or t i 0) (F (drop (i + 1) t)) → Sofar F f t i → Sofar F f t (i + 1)
 sofar_more F f t i h e g =
     g ∙ ap (λ k. each f (take i t) k) e ∙ sym (each_push f (take i t) (get_or t i 0) _) ∙ ap (λ l. each f l (F (drop (i + 1) t))) (sym (take_more t i 0 h))
 
@@ -47,13 +47,13 @@ pub cut_here : (cs : List ℕ) → cut (13 ∷ 10 ∷ cs) ≡ line [] (cut cs)
 unfolding cut
 cut_here cs = refl
 
-pub line_more : (t : List ℕ) (i : ℕ) → i + 1 < length t → (get_or t i 0 ≡ 13 → get_or t (i + 1) 0 ≡ 10 → ⊥) → Sofar cut glue t i → Sofar cut glue t (i + 1)
+line_more : (t : List ℕ) (i : ℕ) → i + 1 < length t → (get_or t i 0 ≡ 13 → get_or t (i + 1) 0 ≡ 10 → ⊥) → Sofar cut glue t i → Sofar cut glue t (i + 1)
 line_more t i h n g =
     let e = drop_more t (i + 1) 0 h in
     let same : i + 2 ≡ i + 1 + 1 = omega arith in
     sofar_more cut glue t i (omega arith) (ap cut (two_more t i h) ∙ cut_on _ _ _ n ∙ ap (λ l. glue (get_or t i 0) (cut l)) (ap (λ k. get_or t (i + 1) 0 ∷ drop k t) same ∙ sym e)) g
 
-pub line_found : (t : List ℕ) (i : ℕ) → i + 1 < length t → get_or t i 0 ≡ 13 → get_or t (i + 1) 0 ≡ 10 → Sofar cut glue t i → cut t ≡ line (take i t) (cut (drop (i + 2) t))
+line_found : (t : List ℕ) (i : ℕ) → i + 1 < length t → get_or t i 0 ≡ 13 → get_or t (i + 1) 0 ≡ 10 → Sofar cut glue t i → cut t ≡ line (take i t) (cut (drop (i + 2) t))
 line_found t i h a b g =
     g ∙ ap (λ k. each glue (take i t) k) (ap cut (two_more t i h ∙ (λ j. a j ∷ b j ∷ drop (i + 2) t)) ∙ cut_here _) ∙ glues_line (take i t) [] _ ∙ ap (λ l. line l (cut (drop (i + 2) t))) (append-nil _)
 
@@ -63,9 +63,23 @@ cut_short [] h = refl
 cut_short (x ∷ []) h = refl
 cut_short (x ∷ y ∷ xs) h = absurd (omega arith)
 
-pub line_none : (t : List ℕ) (i : ℕ) → length t ≤ i + 1 → Sofar cut glue t i → cut t ≡ rest t
+line_none : (t : List ℕ) (i : ℕ) → length t ≤ i + 1 → Sofar cut glue t i → cut t ≡ rest t
 line_none t i h g =
     g ∙ ap (λ k. each glue (take i t) k) (cut_short (drop i t) (simp length-drop (omega arith))) ∙ glues_rest (take i t) (drop i t) ∙ ap rest (take-append-drop i t)
+
+line_sofar : (t : List ℕ) (n : ℕ) → n ≤ length t - 1 → ((k : ℕ) → k < n → get_or t k 0 ≡ 13 → get_or t (k + 1) 0 ≡ 10 → ⊥) → Sofar cut glue t n
+line_sofar t zero l h = refl
+line_sofar t (suc n) l h =
+    let e : n + 1 ≡ suc n = omega arith in
+    subst (Sofar cut glue t) e (line_more t n (omega arith) (h n (omega arith)) (line_sofar t n (omega arith) (λ k q. h k (omega arith))))
+
+-- the first place at which P holds, if it holds at one below m
+abbrev pub IsFirst : (ℕ → Type 0) → ℕ → Option ℕ → Type 0
+IsFirst P m r = MatchOption r ((k : ℕ) → k < m → P k → ⊥) (λ n. (n < m) × P n × ((k : ℕ) → k < n → P k → ⊥))
+
+pub line_is : (t : List ℕ) (r : Option ℕ) → IsFirst (λ k. (get_or t k 0 ≡ 13) × (get_or t (k + 1) 0 ≡ 10)) (length t - 1) r → MatchOption r (cut t ≡ rest t) (λ n. (n + 2 ≤ length t) × (cut t ≡ line (take n t) (cut (drop (n + 2) t))))
+line_is t None h = line_none t (length t - 1) (omega arith) (line_sofar t (length t - 1) (omega arith) (λ k q a b. h k q (a, b)))
+line_is t (Some n) h = (omega (arith, h.0), line_found t n (omega (arith, h.0)) h.1.0 h.1.1 (line_sofar t n (omega (arith, h.0)) (λ k q a b. h.2 k q (a, b))))
 
 -- a colon
 grows_apart : (xs n v : List ℕ) → each grow xs (apart n v) ≡ apart (xs ++ n) v
@@ -88,15 +102,25 @@ split_none : split [] ≡ whole
 unfolding split
 split_none = refl
 
-pub colon_more : (t : List ℕ) (i : ℕ) → i < length t → (get_or t i 0 ≡ 58 → ⊥) → Sofar split grow t i → Sofar split grow t (i + 1)
+colon_more : (t : List ℕ) (i : ℕ) → i < length t → (get_or t i 0 ≡ 58 → ⊥) → Sofar split grow t i → Sofar split grow t (i + 1)
 colon_more t i h n g = sofar_more split grow t i h (ap split (drop_more t i 0 h) ∙ split_on _ _ n) g
 
-pub colon_found : (t : List ℕ) (i : ℕ) → i < length t → get_or t i 0 ≡ 58 → Sofar split grow t i → split t ≡ apart (take i t) (drop (i + 1) t)
+colon_found : (t : List ℕ) (i : ℕ) → i < length t → get_or t i 0 ≡ 58 → Sofar split grow t i → split t ≡ apart (take i t) (drop (i + 1) t)
 colon_found t i h e g =
     g ∙ ap (λ k. each grow (take i t) k) (ap split (drop_more t i 0 h) ∙ split_here _ _ e) ∙ grows_apart (take i t) [] _ ∙ ap (λ l. apart l (drop (i + 1) t)) (append-nil _)
 
-pub colon_none : (t : List ℕ) (i : ℕ) → length t ≤ i → Sofar split grow t i → split t ≡ whole
+colon_none : (t : List ℕ) (i : ℕ) → length t ≤ i → Sofar split grow t i → split t ≡ whole
 colon_none t i h g = g ∙ ap (λ k. each grow (take i t) (split k)) (drop_all i t h) ∙ ap (λ k. each grow (take i t) k) split_none ∙ grows_whole (take i t)
+
+colon_sofar : (t : List ℕ) (n : ℕ) → n ≤ length t → ((k : ℕ) → k < n → get_or t k 0 ≡ 58 → ⊥) → Sofar split grow t n
+colon_sofar t zero l h = refl
+colon_sofar t (suc n) l h =
+    let e : n + 1 ≡ suc n = omega arith in
+    subst (Sofar split grow t) e (colon_more t n (omega arith) (h n (omega arith)) (colon_sofar t n (omega arith) (λ k q. h k (omega arith))))
+
+pub colon_is : (t : List ℕ) (r : Option ℕ) → IsFirst (λ k. get_or t k 0 ≡ 58) (length t) r → MatchOption r (split t ≡ whole) (λ n. (n < length t) × (split t ≡ apart (take n t) (drop (n + 1) t)))
+colon_is t None h = colon_none t (length t) (omega arith) (colon_sofar t (length t) (omega arith) h)
+colon_is t (Some n) h = (h.0, colon_found t n h.0 h.1 (colon_sofar t n (omega (arith, h.0)) h.2))
 
 -- what is said, by the parts
 pub said_whole : (l : List ℕ) → split l ≡ whole → odd ≡ said l
@@ -115,8 +139,6 @@ pub said_property : (l n v : List ℕ) → split l ≡ apart n v → bytes_eq n 
 unfolding said
 said_property l n v e h k = sym (ap said_by e ∙ cond-false _ (begin v) _ h ∙ cond-false _ (end v) (property n v) k)
 
--- the parts as the code has them, &l[0..n] and &l[n + 1..]
-pub as_slices : (l : List ℕ) (n : ℕ) → split l ≡ apart (take n l) (drop (n + 1) l) → split l ≡ apart (take (n - 0) l) (take (length l - (n + 1)) (drop (n + 1) l))
-as_slices l n e =
-    let z : n ≡ n - 0 = omega arith in
-    e ∙ (λ j. apart (take (z j) l) (sym (take_rest l (n + 1)) j))
+-- the parts as the code has them, &l[..n] and &l[n + 1..]
+pub as_slices : (l : List ℕ) (n : ℕ) → split l ≡ apart (take n l) (drop (n + 1) l) → split l ≡ apart (take n l) (take (length l - (n + 1)) (drop (n + 1) l))
+as_slices l n e = e ∙ ap (apart (take n l)) (sym (take_rest l (n + 1)))

@@ -1,39 +1,60 @@
 -- The values of the dated lines. Assumes nothing.
-use Rattle.std.proofs.Common.{◌≡◌, ℕ, ◌-◌, true, false, ◌&&◌, eqb, List, length, take, drop, ℤ, Some, None, codes, Option, sym, ap, ◌∙◌}
+use Rattle.std.proofs.Common.{◌≡◌, ℕ, ◌+◌, ◌-◌, true, false, ◌⊎◌, eqb, List, length, take, drop, ℤ, Some, None, Ok, Err, codes, Option, Result, sym, refl, ap, ◌∙◌, inl, inr, arith}
+use Rattle.std.specs.Result.{result_ok}
 use Rattle.std.specs.Str.{bytes_eq}
-use Rattle.std.proofs.lemmas.List.{take_rest}
-use Rattle.std.proofs.lemmas.Bool.{cond-true, cond-false, and_from, and_left, and_right, eq-eqb, ne_eqb}
+use Rattle.std.proofs.lemmas.Bool.{cases_eq, cond-true, cond-false, and_from, and_left, and_right, eq-eqb, ne_eqb}
+use Rattle.calendar.specs.declared.dates.InvalidStamp.{InvalidStamp}
 use Rattle.calendar.specs.declared.dates.Seconds.{Seconds}
 use Rattle.calendar.specs.declared.dates.Stamp.{Stamp}
 use Rattle.calendar.specs.Calendar.{SecondsFound}
 use Rattle.fields.specs.Stamps.{stamp_read}
 use Rattle.zonetext.specs.Values.{after, clocked, start_read, until_at, until_read}
 use Rattle.fields.proofs.Dates.{read_only}
+use Rattle.fields.proofs.Shapes.{stamp_length}
+use Rattle.zonetext.specs.Stamps.{stamp_at}
+use Rattle.zonetext.proofs.Valued.{start_only}
 
 -- seconds by their number
 abbrev some_seconds : ℤ → Option Seconds
 some_seconds z = Some (record { 0 = z })
 
-pub start_some : (t : List ℕ) (d : Stamp) (r : Option Seconds) → Some d ≡ stamp_read t → SecondsFound d r → r ≡ start_read t
+pub start_some : (t : List ℕ) (d : Stamp) (r : Result Seconds InvalidStamp) (o : Option Seconds) → Some d ≡ stamp_read t → SecondsFound d r → o ≡ result_ok r → o ≡ start_read t
 unfolding start_read
-start_some t d (Some n) e f = ap some_seconds f.value ∙ ap (λ o. after o clocked) e
-start_some t d None e f = absurd (f (read_only t d (sym e)).0)
+start_some t d (Ok n) o e f g = g ∙ ap some_seconds f.value ∙ ap (λ o. after o clocked) e
+start_some t d (Err x) o e f g = absurd (f (read_only t d (sym e)).0)
 
 pub start_none : (t : List ℕ) → None ≡ stamp_read t → None ≡ start_read t
 unfolding start_read
 start_none t e = ap (λ o. after o clocked) e
 
--- the parts as the code has them, &t[0..15] and &t[15..]
-pub until_yes : (t : List ℕ) (o : Option Seconds) → length t ≡ 16 → true ≡ bytes_eq (take (length t - 15) (drop 15 t)) (codes "Z") → o ≡ start_read (take (15 - 0) t) → after o until_at ≡ until_read t
-unfolding until_read
-until_yes t o n z e =
-    ap (λ x. after x until_at) e
-    ∙ sym (cond-true (eqb (length t) 16 && bytes_eq (drop 15 t) (codes "Z")) (after (start_read (take 15 t)) until_at) None (and_from _ _ (eq-eqb _ _ n) (ap (λ x. bytes_eq x (codes "Z")) (sym (take_rest t 15)) ∙ sym z)))
+-- a text of another length says no local time
+start_short : (t : List ℕ) → (length t ≡ 15 → ⊥) → start_read t ≡ None
+start_short t n = by (start_read t) refl where
+  by : (o : Option Seconds) → start_read t ≡ o → start_read t ≡ None
+  by None e = e
+  by (Some s) e = absurd (n (ap length (start_only t s e) ∙ stamp_length (stamp_at s.0)))
 
-pub until_long : (t : List ℕ) → (length t ≡ 16 → ⊥) → None ≡ until_read t
+-- the text without its last byte, and that byte
+until_yes : (t : List ℕ) → length t ≡ 16 → bytes_eq (drop 15 t) (codes "Z") ≡ true → until_read t ≡ after (start_read (take 15 t)) until_at
 unfolding until_read
-until_long t n = sym (cond-false _ (after (start_read (take 15 t)) until_at) None (and_left (eqb (length t) 16) (bytes_eq (drop 15 t) (codes "Z")) (ne_eqb _ _ n)))
+until_yes t n z = cond-true _ (after (start_read (take 15 t)) until_at) None (and_from (eqb (length t) 16) (bytes_eq (drop 15 t) (codes "Z")) (eq-eqb _ _ n) z)
 
-pub until_local : (t : List ℕ) → false ≡ bytes_eq (take (length t - 15) (drop 15 t)) (codes "Z") → None ≡ until_read t
+until_no : (t : List ℕ) → (length t ≡ 16 → ⊥) ⊎ (bytes_eq (drop 15 t) (codes "Z") ≡ false) → until_read t ≡ None
 unfolding until_read
-until_local t z = sym (cond-false _ (after (start_read (take 15 t)) until_at) None (and_right (eqb (length t) 16) (bytes_eq (drop 15 t) (codes "Z")) (ap (λ x. bytes_eq x (codes "Z")) (sym (take_rest t 15)) ∙ sym z)))
+until_no t (inl n) = cond-false _ (after (start_read (take 15 t)) until_at) None (and_left (eqb (length t) 16) (bytes_eq (drop 15 t) (codes "Z")) (ne_eqb _ _ n))
+until_no t (inr z) = cond-false _ (after (start_read (take 15 t)) until_at) None (and_right (eqb (length t) 16) (bytes_eq (drop 15 t) (codes "Z")) z)
+
+pub until_local : (t : List ℕ) → bytes_eq (drop (length t - 1) t) (codes "Z") ≡ false → None ≡ until_read t
+until_local t z = elim (cases_eq (length t) 16) [
+  | inl n ↦ let e : length t - 1 ≡ 15 = omega arith in sym (until_no t (inr (ap (λ k. bytes_eq (drop k t) (codes "Z")) (sym e) ∙ z)))
+  | inr n ↦ sym (until_no t (inl n))
+]
+
+pub until_utc : (t l : List ℕ) (o : Option Seconds) → bytes_eq (drop (length t - 1) t) (codes "Z") ≡ true → l ≡ take (length t - 1) t → length l + 1 ≡ length t → o ≡ start_read l → after o until_at ≡ until_read t
+until_utc t l o z is n e = elim (cases_eq (length t) 16) [
+  | inl m ↦
+      let k : length t - 1 ≡ 15 = omega arith in
+      ap (λ x. after x until_at) (e ∙ ap start_read (is ∙ ap (λ k. take k t) k))
+      ∙ sym (until_yes t m (ap (λ k. bytes_eq (drop k t) (codes "Z")) (sym k) ∙ z))
+  | inr m ↦ ap (λ x. after x until_at) (e ∙ start_short l (λ q. m (omega arith))) ∙ sym (until_no t (inl m))
+]

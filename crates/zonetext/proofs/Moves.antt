@@ -1,5 +1,5 @@
 -- What a line that the reader takes must be. Assumes nothing.
-use Rattle.std.proofs.Common.{◌≡◌, ℕ, ◌<◌, true, false, ltb, ◌⊎◌, List, [], ◌∷◌, ◌++◌, length, Some, None, codes, Option, sym, ap, ◌∙◌, inl, inr, ⊎_elim, arith}
+use Rattle.std.proofs.Common.{◌≡◌, ℕ, ◌<◌, true, cond, ltb, ◌⊎◌, List, [], ◌∷◌, ◌++◌, length, Some, None, codes, Option, sym, ap, ◌∙◌, inl, inr, ⊎_elim, arith}
 use lib.Signed.{le_z}
 use Rattle.std.specs.Str.{bytes_eq}
 use Rattle.std.proofs.lemmas.Slice.Eq.{bytes_eq-Decides}
@@ -17,9 +17,9 @@ use Rattle.names.specs.Names.{is_text}
 use Rattle.zone.specs.Rows.{window_rows}
 use Rattle.zonetext.specs.declared.places.Part.TheVariants.{Empty, Started, Left, Full}
 use Rattle.zonetext.specs.declared.places.Place.{Place}
-use Rattle.zonetext.specs.declared.places.Place.TheVariants.{Head, Between, Inside, After}
+use Rattle.zonetext.specs.declared.places.Place.TheVariants.{Head, Named, Between, Inside, After}
 use Rattle.zonetext.specs.Lines.{Said, begin, end, property, odd}
-use Rattle.zonetext.specs.Reading.{State, state, component, row_of, may_come, in_front, in_head, in_between, in_row}
+use Rattle.zonetext.specs.Reading.{State, state, component, row_of, may_come, in_front, in_head, in_named, observed, in_between, in_row}
 use Rattle.zonetext.specs.Stamps.{stamp_at}
 use Rattle.zonetext.specs.Values.{start_read, until_read}
 use Rattle.zonetext.specs.Writing.{until_text}
@@ -34,19 +34,32 @@ some_is x s e = cc
 same_is : (v w : List ℕ) → bytes_eq v w ≡ true → v ≡ w
 same_is v w h = (bytes_eq-Decides v w).0 h
 
+observance_is : (x o : Observance) → Some x ≡ Some o → x ≡ o
+observance_is x o e = cc
+
+-- the row that a component opens has that component
+observed_is : (v : List ℕ) (o : Observance) → observed v ≡ Some o → v ≡ component o
+observed_is v o e =
+    let first = bytes_eq v (codes "STANDARD") in
+    let other : Option Observance = cond (bytes_eq v (codes "DAYLIGHT")) (Some Daylight) None in
+    ⊎_elim
+    (λ y. same_is v _ y ∙ ap component (observance_is Standard o (sym (cond-true first (Some Standard) other y) ∙ e)))
+    (λ x. let b = cond_in _ _ o (sym (cond-false first (Some Standard) other x) ∙ e) in same_is v _ b.0 ∙ ap component (observance_is Daylight o b.1))
+    (cases_Bool first)
+
 -- t is the state before the line, and s the one after it
 module _ (t s : State) where
   -- the state after the line, by its place, name and end
   abbrev To : Place → List ℕ → Instant → Type 0
   To p n u = s ≡ state p n u t.rows
 
-  pub front_only : (w : Said) → in_front t w ≡ Some s → (w ≡ begin (codes "VTIMEZONE")) × To (Head false) t.name t.until
+  pub front_only : (w : Said) → in_front t w ≡ Some s → (w ≡ begin (codes "VTIMEZONE")) × To Head t.name t.until
   front_only (begin v) e = let p = cond_in _ _ s e in (ap begin (same_is v _ p.0), some_is _ s p.1)
   front_only (end v) e = none_some s e
   front_only (property p v) e = none_some s e
   front_only odd e = none_some s e
 
-  pub name_only : (w : Said) → in_head false t w ≡ Some s → (v : List ℕ) × (w ≡ property (codes "TZID") v) × (is_text v ≡ true) × To (Head true) v t.until
+  pub name_only : (w : Said) → in_head t w ≡ Some s → (v : List ℕ) × (w ≡ property (codes "TZID") v) × (is_text v ≡ true) × To Named v t.until
   name_only (begin v) e = none_some s e
   name_only (end v) e = none_some s e
   name_only (property p v) e =
@@ -55,7 +68,7 @@ module _ (t s : State) where
       (v, ap (λ l. property l v) (same_is p _ b.0), b.1, some_is _ s a.1)
   name_only odd e = none_some s e
 
-  pub until_line : (w : Said) → in_head true t w ≡ Some s → (u : Instant) × (w ≡ property (codes "TZUNTIL") (until_text u.0)) × (le_z u.0 era.end ≡ true) × To Between t.name u
+  pub until_line : (w : Said) → in_named t w ≡ Some s → (u : Instant) × (w ≡ property (codes "TZUNTIL") (until_text u.0)) × (le_z u.0 era.end ≡ true) × To Between t.name u
   until_line (begin v) e = none_some s e
   until_line (end v) e = none_some s e
   until_line (property p v) e =
@@ -69,12 +82,8 @@ module _ (t s : State) where
       → ((o : Observance) × (w ≡ begin (component o)) × (length t.rows < window_rows) × To (Inside o Empty) t.name t.until) ⊎ ((w ≡ end (codes "VTIMEZONE")) × (0 < length t.rows) × To After t.name t.until)
   between_only (begin v) e =
       let a = cond_in _ _ s e in
-      let first = bytes_eq v (codes "STANDARD") in
-      let yes = Some (state (Inside Standard Empty) t.name t.until t.rows) in
-      ⊎_elim
-      (λ y. inl (Standard, ap begin (same_is v _ y), ltb-true _ _ a.0, some_is _ s (sym (cond-true first yes _ y) ∙ a.1)))
-      (λ x. let b = cond_in _ _ s (sym (cond-false first yes _ x) ∙ a.1) in inl (Daylight, ap begin (same_is v _ b.0), ltb-true _ _ a.0, some_is _ s b.1))
-      (cases_Bool first)
+      let b = after_in (observed v) _ s a.1 in
+      inl (b.0, ap begin (observed_is v b.0 b.1), ltb-true _ _ a.0, some_is _ s b.2)
   between_only (end v) e =
       let a = cond_in _ _ s e in
       let b = and_parts (ltb 0 (length t.rows)) (bytes_eq v (codes "VTIMEZONE")) a.0 in

@@ -1,5 +1,5 @@
 -- A text that reads as a zone is the text of that zone. Assumes nothing.
-use Rattle.std.proofs.Common.{◌≡◌, ℕ, ◌+◌, ◌<◌, ◌≤◌, true, false, List, [], ◌∷◌, ◌++◌, length, ℤ, pos, ◌+ℤ◌, ◌-ℤ◌, Some, None, codes, Option, sym, refl, ap, ◌∙◌, subst, ⊎_elim, arith}
+use Rattle.std.proofs.Common.{◌≡◌, ℕ, ◌+◌, ◌<◌, ◌≤◌, true, List, [], ◌∷◌, ◌++◌, length, ℤ, pos, ◌+ℤ◌, ◌-ℤ◌, Some, None, codes, Option, sym, refl, ap, ◌∙◌, subst, ⊎_elim, arith}
 use lib.Signed.{le_z}
 use Rattle.std.proofs.lemmas.List.{append_assoc, append-nil, length_push}
 use Rattle.std.proofs.lemmas.Int.{ints}
@@ -17,7 +17,7 @@ use Rattle.zone.specs.Rows.{window_rows}
 use Rattle.names.proofs.Spelling.{names_stand}
 use Rattle.zonetext.specs.declared.places.Part.TheVariants.{Empty, Started, Left, Full}
 use Rattle.zonetext.specs.declared.places.Place.{Place}
-use Rattle.zonetext.specs.declared.places.Place.TheVariants.{Before, Head, Between, Inside, After}
+use Rattle.zonetext.specs.declared.places.Place.TheVariants.{Before, Head, Named, Between, Inside, After}
 use Rattle.zonetext.specs.Laws.{ReadsAs, IsTextOf}
 use Rattle.zonetext.specs.Lines.{Lines, rest, line, unlines, cut, said}
 use Rattle.zonetext.specs.Reading.{State, Zone, state, component, row_of, may_come, step, zone_read, fails, ending, run}
@@ -89,8 +89,8 @@ record Ended (v : Instant) (n : List ℕ) (acc : List Row) (k : Lines) (z : Zone
 -- what is left of the text, by the place
 abbrev Remains : Place → List ℕ → Instant → List Row → Lines → Zone → Type 0
 Remains Before n u acc ls z = (m : List ℕ) × (v : Instant) × (k : Lines) × (ls ≡ line (bare (codes "BEGIN") (codes "VTIMEZONE")) (line (bare (codes "TZID") m) (until_of v k))) × (is_text m ≡ true) × Ended v m acc k z
-Remains (Head false) n u acc ls z = (m : List ℕ) × (v : Instant) × (k : Lines) × (ls ≡ line (bare (codes "TZID") m) (until_of v k)) × (is_text m ≡ true) × Ended v m acc k z
-Remains (Head true) n u acc ls z = (v : Instant) × (k : Lines) × (ls ≡ until_of v k) × Ended v n acc k z
+Remains Head n u acc ls z = (m : List ℕ) × (v : Instant) × (k : Lines) × (ls ≡ line (bare (codes "TZID") m) (until_of v k)) × (is_text m ≡ true) × Ended v m acc k z
+Remains Named n u acc ls z = (v : Instant) × (k : Lines) × (ls ≡ until_of v k) × Ended v n acc k z
 Remains Between n u acc ls z = Rest n u acc ls z
 Remains (Inside o Empty) n u acc ls z = (d : Seconds) × (x : Offset) × (y : Offset) × (k : Lines) × (ls ≡ start_of o d x y k) × InDay x × InDay y × Closed o d x y n u acc k z
 Remains (Inside o (Started d)) n u acc ls z = (x : Offset) × (y : Offset) × (k : Lines) × (ls ≡ from_of o x y k) × InDay x × InDay y × Closed o d x y n u acc k z
@@ -101,8 +101,8 @@ Remains After n u acc ls z = (ls ≡ rest []) × (z ≡ zone_read (state After n
 -- the text ends
 ended : (p : Place) (n : List ℕ) (u : Instant) (acc : List Row) (o : ℕ) (t : List ℕ) (z : Zone) → ending (state p n u acc) o t ≡ answered z → Remains p n u acc (rest t) z
 ended Before n u acc o [] z e = bad _ z e
-ended (Head true) n u acc o [] z e = bad _ z e
-ended (Head false) n u acc o [] z e = bad _ z e
+ended Named n u acc o [] z e = bad _ z e
+ended Head n u acc o [] z e = bad _ z e
 ended Between n u acc o [] z e = bad _ z e
 ended (Inside b Empty) n u acc o [] z e = bad _ z e
 ended (Inside b (Started d)) n u acc o [] z e = bad _ z e
@@ -163,16 +163,16 @@ left (rest t) z p n u acc o g = ended p n u acc o t z (sym (run_rest (state p n 
 left (line l ls) z Before n u acc o g =
     let a = next (state Before n u acc) o l ls z g in
     let b = front_only (state Before n u acc) a.to (said l) a.by in
-    let c = goes_on ls _ z (left ls z) a.to (Head false) n u acc a.goes b.1 in
+    let c = goes_on ls _ z (left ls z) a.to Head n u acc a.goes b.1 in
     (c.0, c.1, c.2, (λ j. line (text_begin l (codes "VTIMEZONE") b.0 j) (c.3 j)), c.4, c.5)
-left (line l ls) z (Head false) n u acc o g =
-    let a = next (state (Head false) n u acc) o l ls z g in
-    let b = name_only (state (Head false) n u acc) a.to (said l) a.by in
-    let c = goes_on ls _ z (left ls z) a.to (Head true) b.0 u acc a.goes b.3 in
+left (line l ls) z Head n u acc o g =
+    let a = next (state Head n u acc) o l ls z g in
+    let b = name_only (state Head n u acc) a.to (said l) a.by in
+    let c = goes_on ls _ z (left ls z) a.to Named b.0 u acc a.goes b.3 in
     (b.0, c.0, c.1, (λ j. line (text_property l (codes "TZID") b.0 b.1 j) (c.2 j)), b.2, c.3)
-left (line l ls) z (Head true) n u acc o g =
-    let a = next (state (Head true) n u acc) o l ls z g in
-    let b = until_line (state (Head true) n u acc) a.to (said l) a.by in
+left (line l ls) z Named n u acc o g =
+    let a = next (state Named n u acc) o l ls z g in
+    let b = until_line (state Named n u acc) a.to (said l) a.by in
     let c = goes_on ls _ z (left ls z) a.to Between n b.0 acc a.goes b.3 in
     (b.0, ls, ap (λ k. line k ls) (text_property l (codes "TZUNTIL") (until_text b.0.0) b.1), record { early = b.2; then = c })
 left (line l ls) z Between n u acc o g =

@@ -1,16 +1,16 @@
 -- What a call that reads a text tells. Assumes nothing.
-use Rattle.std.proofs.Common.{◌≡◌, ℕ, ◌-◌, ◌≤◌, Bool, true, List, length, take, Err, vec_items, Decides, Result, sym, refl, ap, ◌∙◌, subst, arith}
-use Rattle.std.proofs.lemmas.List.{get_or-take, length-take-le}
+use Rattle.std.proofs.Common.{◌≡◌, ℕ, ◌<◌, Bool, true, List, length, Ok, Err, IsErr, Decides, Result, sym, ap, ◌∙◌, subst, arith}
 use Rattle.names.specs.declared.name.Name.{Name}
 use Rattle.zone.specs.declared.refusals.Refusal.{Refusal}
 use Rattle.zone.specs.declared.rows.Interval.{Interval}
+use Rattle.zone.specs.declared.rows.Row.{Row}
 use Rattle.zone.specs.declared.windows.Window.{Window}
 use Rattle.names.specs.Names.{held}
 use Rattle.zone.specs.Refusals.{answered, refused, number, values, outcome}
-use Rattle.zone.specs.Rows.{at, no_row, Sound, window_rows}
+use Rattle.zone.specs.Rows.{at, Sound, window_rows}
 use Rattle.zonetext.specs.declared.places.Reader.{Reader}
 use Rattle.zonetext.specs.Laws.{IsTextOf, Says}
-use Rattle.zonetext.specs.Reading.{Zone, between, zone, zone_in, zone_read, state_of, reading, told, LeftAlone}
+use Rattle.zonetext.specs.Reading.{Zone, between, zone, zone_in, zone_read, state_of, reading, told}
 use Rattle.zonetext.proofs.Back.{one_text}
 use Rattle.zonetext.proofs.Only.{only}
 
@@ -18,30 +18,26 @@ use Rattle.zonetext.proofs.Only.{only}
 never : (k : ℕ) (vs : List ℕ) (z : Zone) → refused k vs ≡ answered z → ⊥
 never k vs z e = let q : ◌≡◌ {A = ℕ} 0 1 = cc in omega arith
 
-refused_read : (e : Refusal) (t : List ℕ) (w : Window) → refused (number e) (values e) ≡ reading t → (told (outcome (Err e)) w ≡ reading t) × LeftAlone (Err e) w w × Says (Err e) t w
-refused_read e t w h = (h, refl, λ z is. never (number e) (values e) z (h ∙ (one_text t z).1 is))
+-- a text that is refused is no zone's
+pub refused_says : (r : Result Name Refusal) (t : List ℕ) (w : Window) → IsErr r → told (outcome r) w ≡ reading t → Says r t w
+refused_says (Ok n) t w i h = cc
+refused_says (Err e) t w i h = λ z is. never (number e) (values e) z (h ∙ (one_text t z).1 is)
 
-pub read_refused : (r : Result Name Refusal) (e : Refusal) (t : List ℕ) (w : Window) → r ≡ Err e → refused (number e) (values e) ≡ reading t → (told (outcome r) w ≡ reading t) × LeftAlone r w w × Says r t w
-read_refused r e t w is h = subst (λ x. (told (outcome x) w ≡ reading t) × LeftAlone x w w × Says x t w) (sym is) (refused_read e t w h)
+-- a reader of a whole text has a row
+pub read_some : (r : Reader) (t : List ℕ) → answered (zone_read (state_of r)) ≡ reading t → 0 < length r.rows.items
+read_some r t h = (only t (zone_read (state_of r)) (sym h)).0.window.covers.begins.0
+
+-- its rows and its interval are those of a window
+pub read_sound : (r : Reader) (t : List ℕ) (given : Interval) (rs : List Row) → answered (zone_read (state_of r)) ≡ reading t → given ≡ between (at r.rows.items 0).onset r.until.0 → rs ≡ r.rows.items → Sound window_rows given rs
+read_sound r t given rs h g l =
+    let s = (only t (zone_read (state_of r)) (sym h)).0.window in
+    subst (λ i. Sound window_rows i rs) (sym g) (subst (Sound window_rows (between (at r.rows.items 0).onset r.until.0)) (sym l) s)
 
 -- the window is filled with what the reader holds
-pub read_filled : (r : Reader) (t : List ℕ) (n : Name) (w : Window) (b : Bool) (given : Interval) → answered (zone_read (state_of r)) ≡ reading t → r.count ≤ length r.rows → n.bytes ≡ held r.name.now
-    → given ≡ between (at r.rows 0).onset r.until.0 → Decides b (Sound window_rows given (take (r.count - 0) r.rows))
-    → (b ≡ true → (w.interval ≡ given) × (vec_items w.rows ≡ take (r.count - 0) r.rows))
+pub read_filled : (r : Reader) (t : List ℕ) (n : Name) (w : Window) (given : Interval) (rs : List Row) → answered (zone_read (state_of r)) ≡ reading t → n.bytes ≡ held r.name.now
+    → given ≡ between (at r.rows.items 0).onset r.until.0 → rs ≡ r.rows.items → (w.interval ≡ given) × (w.rows.items ≡ rs)
     → (answered (zone_in n w) ≡ reading t) × IsTextOf t (zone_in n w)
-read_filled r t n w b given h few e g tells fills =
+read_filled r t n w given rs h e g l f =
     let z = zone_read (state_of r) in
-    let o = only t z (sym h) in
-    let s = o.0.window in
-    let end = r.until.0 in
-    let minus : r.count - 0 ≡ r.count = omega arith in
-    let rows : take (r.count - 0) r.rows ≡ take r.count r.rows = ap (λ k. take k r.rows) minus in
-    let long = length-take-le r.count r.rows few in
-    let some = s.covers.begins.0 in
-    let first : (at (take r.count r.rows) 0).onset ≡ (at r.rows 0).onset = ap (λ x. x.onset) (get_or-take r.count r.rows 0 no_row (omega arith)) in
-    let sound : Sound window_rows (between (at r.rows 0).onset end) (take (r.count - 0) r.rows) = subst (λ l. Sound window_rows (between (at r.rows 0).onset end) l) (sym rows) (subst (λ x. Sound window_rows (between x end) (take r.count r.rows)) first s) in
-    let f = fills (tells.1 (subst (λ x. Sound window_rows x (take (r.count - 0) r.rows)) (sym g) sound)) in
-    let i : w.interval ≡ between (at (take r.count r.rows) 0).onset end = f.0 ∙ g ∙ ap (λ x. between x end) (sym first) in
-    let l : vec_items w.rows ≡ take r.count r.rows = f.1 ∙ rows in
-    let same : zone_in n w ≡ z = λ j. zone (e j) (i j) (l j) in
-    (ap answered same ∙ h, subst (IsTextOf t) (sym same) o)
+    let same : zone_in n w ≡ z = λ j. zone (e j) ((f.0 ∙ g) j) ((f.1 ∙ l) j) in
+    (ap answered same ∙ h, subst (IsTextOf t) (sym same) (only t z (sym h)))

@@ -1,13 +1,15 @@
 -- One line after another gives what the whole text gives. Assumes nothing.
-use Rattle.std.proofs.Common.{◌≡◌, ℕ, ◌+◌, ◌-◌, ◌<◌, ◌≤◌, true, false, cond, List, [], ◌∷◌, length, take, drop, Some, None, sym, refl, ap, ◌∙◌, arith}
-use Rattle.std.proofs.lemmas.List.{drop-drop, drop_all, length-take-le, length-drop, take_rest}
+use Rattle.std.proofs.Common.{◌≡◌, ℕ, ◌+◌, ◌-◌, ◌<◌, ◌≤◌, false, cond, List, [], ◌∷◌, length, take, drop, Some, None, Err, IsErrAnd, Option, Result, sym, refl, ap, ◌∙◌, arith}
+use Rattle.std.specs.Option.{ok_or}
+use Rattle.std.proofs.lemmas.List.{drop-drop, length-take-le, length-drop, take_rest}
+use Rattle.std.proofs.lemmas.Result.{err_from_is_err_and}
 use Rattle.zone.specs.Refusals.{answered}
-use Rattle.zone.specs.Rows.{window_rows}
 use Rattle.zonetext.specs.declared.places.Part.TheVariants.{Empty, Started, Left, Full}
 use Rattle.zonetext.specs.declared.places.Place.{Place}
-use Rattle.zonetext.specs.declared.places.Place.TheVariants.{Before, Head, Between, Inside, After}
+use Rattle.zonetext.specs.declared.places.Place.TheVariants.{Before, Head, Named, Between, Inside, After}
+use Rattle.zonetext.specs.declared.places.Reader.{Reader}
 use Rattle.zonetext.specs.Lines.{Lines, rest, line, cut, Said, odd, said}
-use Rattle.zonetext.specs.Reading.{State, start, move, step, zone_read, fails, is_after, ending, or_fail, run, reading, Room}
+use Rattle.zonetext.specs.Reading.{State, start, move, step, zone_read, fails, is_after, ending, or_fail, run, reading, scanned}
 
 -- what is left of t from the byte a on gives what all of t gives
 abbrev pub Going : List ℕ → ℕ → State → Type 0
@@ -29,8 +31,8 @@ run_rest s o t = refl
 
 move_odd : (p : Place) (s : State) → move p s odd ≡ None
 move_odd Before s = refl
-move_odd (Head true) s = refl
-move_odd (Head false) s = refl
+move_odd Named s = refl
+move_odd Head s = refl
 move_odd Between s = refl
 move_odd (Inside o Empty) s = refl
 move_odd (Inside o (Started d)) s = refl
@@ -49,64 +51,78 @@ reading_is t = refl
 pub going_start : (t : List ℕ) (s : State) → s ≡ start → Going t 0 s
 going_start t s e = ap (λ x. run x 0 (cut t)) e ∙ sym (reading_is t)
 
--- r is what is left, as the code has it, and w what its first line says
+not_after : (p : Place) → (p ≡ After → ⊥) → is_after p ≡ false
+not_after Before n = refl
+not_after Head n = refl
+not_after Named n = refl
+not_after Between n = refl
+not_after (Inside o q) n = refl
+not_after After n = absurd (n refl)
+
+ending_none : (s : State) (a : ℕ) (r : List ℕ) → length r ≡ 0 → ending s a r ≡ cond (is_after s.place) (answered (zone_read s)) (fails a)
+ending_none s a [] h = refl
+ending_none s a (c ∷ r) h = absurd (omega arith)
+
+ending_some : (s : State) (a : ℕ) (r : List ℕ) → 0 < length r → ending s a r ≡ fails (cond (is_after s.place) a (a + length r))
+ending_some s a [] h = absurd (omega arith)
+ending_some s a (c ∷ r) h = refl
+
+ending_early : (s : State) (a : ℕ) (r : List ℕ) → is_after s.place ≡ false → ending s a r ≡ fails (a + length r)
+ending_early s a [] e = let z : a ≡ a + 0 = omega arith in ap (λ b. cond b (answered (zone_read s)) (fails a)) e ∙ ap fails z
+ending_early s a (c ∷ r) e = ap (λ b. fails (cond b a (a + length (c ∷ r)))) e
+
+-- what is left, as the code has it, is &t[a..], and w is what its first line says
 module _ (t : List ℕ) (a : ℕ) (s : State) (g : Going t a s) where
   here : run s a (cut (take (length t - a) (drop a t))) ≡ reading t
   here = ap (λ k. run s a (cut k)) (take_rest t a) ∙ g
 
-  said_here : (r : List ℕ) (n : ℕ) (w : Said) → w ≡ said (take (n - 0) r) → said (take n r) ≡ w
-  said_here r n w e = let z : n ≡ n - 0 = omega arith in ap (λ k. said (take k r)) z ∙ sym e
+  -- its first line, as the code has it, is &t[a..a + n]
+  said_here : (n : ℕ) (w : Said) → w ≡ said (take (a + n - a) (drop a t)) → said (take n (take (length t - a) (drop a t))) ≡ w
+  said_here n w e = let z : n ≡ a + n - a = omega arith in (λ j. said (take (z j) (take_rest t a j))) ∙ sym e
 
-  pub turn_on : (n : ℕ) (s' : State) (w : Said) → let r = take (length t - a) (drop a t) in n + 2 ≤ length r → cut r ≡ line (take n r) (cut (drop (n + 2) r)) → w ≡ said (take (n - 0) r) → step s w ≡ Some s' → Going t (a + (n + 2)) s'
+  pub turn_on : (n : ℕ) (s' : State) (w : Said) → let r = take (length t - a) (drop a t) in n + 2 ≤ length r → cut r ≡ line (take n r) (cut (drop (n + 2) r)) → w ≡ said (take (a + n - a) (drop a t)) → step s w ≡ Some s' → Going t (a + (n + 2)) s'
   turn_on n s' w h e is m =
       let r = take (length t - a) (drop a t) in
       let len : length (take n r) ≡ n = length-take-le n r (omega arith) in
       let after : drop (n + 2) r ≡ drop (a + (n + 2)) t = ap (drop (n + 2)) (take_rest t a) ∙ drop-drop (n + 2) a t in
-      sym (ap (λ k. run s a k) e ∙ run_on s s' a _ _ (ap (step s) (said_here r n w is) ∙ m) ∙ (λ j. run s' (a + (len j + 2)) (cut (after j)))) ∙ here
+      sym (ap (λ k. run s a k) e ∙ run_on s s' a _ _ (ap (step s) (said_here n w is) ∙ m) ∙ (λ j. run s' (a + (len j + 2)) (cut (after j)))) ∙ here
 
-  pub turn_stop : (n : ℕ) (w : Said) → let r = take (length t - a) (drop a t) in cut r ≡ line (take n r) (cut (drop (n + 2) r)) → w ≡ said (take (n - 0) r) → step s w ≡ None → fails a ≡ reading t
-  turn_stop n w e is m = let r = take (length t - a) (drop a t) in sym (ap (λ k. run s a k) e ∙ run_stop s a _ _ (ap (step s) (said_here r n w is) ∙ m)) ∙ here
+  pub turn_stop : (n : ℕ) (w : Said) → let r = take (length t - a) (drop a t) in cut r ≡ line (take n r) (cut (drop (n + 2) r)) → w ≡ said (take (a + n - a) (drop a t)) → step s w ≡ None → fails a ≡ reading t
+  turn_stop n w e is m = sym (ap (λ k. run s a k) e ∙ run_stop s a _ _ (ap (step s) (said_here n w is) ∙ m)) ∙ here
 
-  some : (r : List ℕ) → 0 < length r → ending s a r ≡ fails (cond (is_after s.place) a (a + length r))
-  some [] h = absurd (omega arith)
-  some (c ∷ r) h = refl
+  -- no line ends here
+  rest_here : let r = take (length t - a) (drop a t) in cut r ≡ rest r → ending s a r ≡ reading t
+  rest_here e = let r = take (length t - a) (drop a t) in sym (ap (λ k. run s a k) e ∙ run_rest s a r) ∙ here
 
-  late : a < length t → let r = take (length t - a) (drop a t) in cut r ≡ rest r → fails (cond (is_after s.place) a (a + length r)) ≡ reading t
-  late h e =
+  length_here : length (take (length t - a) (drop a t)) ≡ length t - a
+  length_here = ap length (take_rest t a) ∙ length-drop a t
+
+  -- the text was complete, and ends here
+  pub turn_done : let r = take (length t - a) (drop a t) in cut r ≡ rest r → a ≡ length t → s.place ≡ After → answered (zone_read s) ≡ reading t
+  turn_done e h p =
       let r = take (length t - a) (drop a t) in
-      sym (ap (λ k. run s a k) e ∙ run_rest s a r ∙ some r (rw (take_rest t a, length-drop) (omega arith))) ∙ here
+      let n : length r ≡ 0 = omega (arith, length_here) in
+      sym (ending_none s a r n ∙ ap (λ q. cond (is_after q) (answered (zone_read s)) (fails a)) p) ∙ rest_here e
 
-  -- no line ends here: either the text was complete, or it ends early
-  pub turn_late : (o : ℕ) → a < length t → let r = take (length t - a) (drop a t) in cut r ≡ rest r → o ≡ cond (is_after s.place) a (length t) → fails o ≡ reading t
-  turn_late o h e is =
-      let len : length (take (length t - a) (drop a t)) ≡ length t - a = ap length (take_rest t a) ∙ length-drop a t in
-      let all : length t ≡ a + length (take (length t - a) (drop a t)) = omega arith in
-      ap fails (is ∙ ap (λ n. cond (is_after s.place) a n) all) ∙ late h e
+  -- the text was complete, and more stands here
+  pub turn_more : let r = take (length t - a) (drop a t) in cut r ≡ rest r → a ≤ length t → (a ≡ length t → ⊥) → s.place ≡ After → fails a ≡ reading t
+  turn_more e h n p =
+      let r = take (length t - a) (drop a t) in
+      let l : 0 < length r = omega (arith, length_here) in
+      sym (ending_some s a r l ∙ ap (λ q. fails (cond (is_after q) a (a + length r))) p) ∙ rest_here e
 
-cut_none : cut [] ≡ rest []
-unfolding cut
-cut_none = refl
+  -- the text ends early
+  pub turn_early : let r = take (length t - a) (drop a t) in cut r ≡ rest r → a ≤ length t → (s.place ≡ After → ⊥) → fails (length t) ≡ reading t
+  turn_early e h n =
+      let r = take (length t - a) (drop a t) in
+      let l : a + length r ≡ length t = omega (arith, length_here) in
+      sym (ending_early s a r (not_after s.place n) ∙ ap fails l) ∙ rest_here e
 
-turn_end : (t : List ℕ) (a : ℕ) (s : State) → length t ≤ a → Going t a s → ending s a [] ≡ reading t
-turn_end t a s h g = sym (run_rest s a []) ∙ ap (λ k. run s a k) (sym cut_none) ∙ ap (λ k. run s a (cut k)) (sym (drop_all a t h)) ∙ g
+error_is : {X : Type 0} (e a : ℕ) → ◌≡◌ {A = Result X ℕ} (Err e) (Err a) → e ≡ a
+error_is e a h = cc
 
-pub turn_short : (t : List ℕ) (a : ℕ) (s : State) → length t ≤ a → Going t a s → false ≡ is_after s.place → fails a ≡ reading t
-turn_short t a s h g e = ap (λ b. cond b (answered (zone_read s)) (fails a)) e ∙ turn_end t a s h g
-
-pub turn_done : (t : List ℕ) (a : ℕ) (s : State) → length t ≤ a → Going t a s → true ≡ is_after s.place → answered (zone_read s) ≡ reading t
-turn_done t a s h g e = ap (λ b. cond b (answered (zone_read s)) (fails a)) e ∙ turn_end t a s h g
-
--- room for the rows
-pub room_none : (p : Place) (n : ℕ) → n ≡ 0 → Room p n
-room_none Before n e = omega arith
-room_none (Head b) n e = omega arith
-room_none Between n e = omega arith
-room_none (Inside o q) n e = omega arith
-room_none After n e = omega arith
-
-pub room_few : (p : Place) (n : ℕ) → Room p n → n ≤ window_rows
-room_few Before n h = h
-room_few (Head b) n h = h
-room_few Between n h = h
-room_few (Inside o q) n h = omega arith
-room_few After n h = h
+-- where x is none, what x.ok_or(a)? returns
+pub stopped : {X : Type 0} (x : Option X) (r : Result Reader ℕ) (e a : ℕ) → ◌≡◌ {A = Result X ℕ} (Err e) (ok_or x a) → x ≡ None → IsErrAnd r (λ f. f ≡ e) → scanned r ≡ fails a
+stopped {X} x r e a v n h =
+    let y = err_from_is_err_and r h in
+    ap scanned y.1 ∙ ap fails (y.2 ∙ error_is {X = X} e a (v ∙ ap (λ o. ok_or o a) n))

@@ -1,4 +1,5 @@
 pub mod Lines
+pub mod Begun
 pub mod Reading
 pub mod Values
 pub mod Stamps

@@ -1,5 +1,5 @@
 -- How a text is read, line by line. Assumes nothing.
-use Rattle.std.specs.Prelude.{◌≡◌, ℕ, ◌+◌, ◌-◌, ◌<◌, ◌≤◌, Bool, true, false, cond, ◌&&◌, ◌||◌, List, [], ◌∷◌, ◌++◌, length, take, ℤ, pos, ◌-ℤ◌, Some, None, Ok, Err, vec_items, codes, MatchBool, Option, Result, ◌==◌, int_le, int_lt, nat_lt}
+use Rattle.std.specs.Prelude.{◌≡◌, ℕ, ◌+◌, ◌-◌, Bool, true, false, cond, ◌&&◌, ◌||◌, List, [], ◌∷◌, ◌++◌, length, ℤ, pos, ◌-ℤ◌, Some, None, Ok, Err, codes, ⊤, MatchOption, Option, Result, ◌==◌, int_le, int_lt, nat_lt}
 use Rattle.std.specs.Str.{bytes_eq}
 use Rattle.calendar.specs.declared.dates.Seconds.{Seconds}
 use Rattle.fields.specs.declared.types.Offset.{Offset}
@@ -14,12 +14,12 @@ use Rattle.zone.specs.declared.rows.Observance.TheVariants.{Standard, Daylight}
 use Rattle.zone.specs.declared.rows.Row.{Row}
 use Rattle.zone.specs.Intervals.{era, has_instant}
 use Rattle.names.specs.Names.{is_text, held}
-use Rattle.zone.specs.Refusals.{Outcome, answered, refused, number, values}
+use Rattle.zone.specs.Refusals.{Outcome, answered, refused}
 use Rattle.zone.specs.Rows.{at, window_rows}
 use Rattle.zonetext.specs.declared.places.Part.{Part}
 use Rattle.zonetext.specs.declared.places.Part.TheVariants.{Empty, Started, Left, Full}
 use Rattle.zonetext.specs.declared.places.Place.{Place}
-use Rattle.zonetext.specs.declared.places.Place.TheVariants.{Before, Head, Between, Inside, After}
+use Rattle.zonetext.specs.declared.places.Place.TheVariants.{Before, Head, Named, Between, Inside, After}
 use Rattle.zonetext.specs.declared.places.Reader.{Reader}
 use Rattle.zonetext.specs.Lines.{Lines, rest, line, cut, Said, begin, end, property, odd, said}
 use Rattle.zonetext.specs.Values.{after, start_read, until_read}
@@ -62,26 +62,36 @@ start = state Before [] (record { 0 = pos 0 }) []
 
 -- the state of a reader of the code
 abbrev pub state_of : Reader → State
-state_of r = state r.place r.name.now r.until (take r.count r.rows)
+state_of r = state r.place r.name.now r.until r.rows.items
 
 -- a line before the text
 abbrev pub in_front : State → Said → Option State
-in_front s (begin v) = cond (bytes_eq v (codes "VTIMEZONE")) (Some (state (Head false) s.name s.until s.rows)) None
+in_front s (begin v) = cond (bytes_eq v (codes "VTIMEZONE")) (Some (state Head s.name s.until s.rows)) None
 in_front s (end v) = None
 in_front s (property p v) = None
 in_front s odd = None
 
--- a line of the head: the name, and then the window's end
-abbrev pub in_head : Bool → State → Said → Option State
-in_head b s (begin v) = None
-in_head b s (end v) = None
-in_head false s (property p v) = cond (bytes_eq p (codes "TZID") && is_text v) (Some (state (Head true) v s.until s.rows)) None
-in_head true s (property p v) = cond (bytes_eq p (codes "TZUNTIL")) (after (until_read v) (λ u. Some (state Between s.name u s.rows))) None
-in_head b s odd = None
+-- a line of the head, before the name
+abbrev pub in_head : State → Said → Option State
+in_head s (begin v) = None
+in_head s (end v) = None
+in_head s (property p v) = cond (bytes_eq p (codes "TZID") && is_text v) (Some (state Named v s.until s.rows)) None
+in_head s odd = None
+
+-- a line of the head, after the name: the window's end
+abbrev pub in_named : State → Said → Option State
+in_named s (begin v) = None
+in_named s (end v) = None
+in_named s (property p v) = cond (bytes_eq p (codes "TZUNTIL")) (after (until_read v) (λ u. Some (state Between s.name u s.rows))) None
+in_named s odd = None
+
+-- the observance of the row that a component is
+abbrev pub observed : List ℕ → Option Observance
+observed v = cond (bytes_eq v (codes "STANDARD")) (Some Standard) (cond (bytes_eq v (codes "DAYLIGHT")) (Some Daylight) None)
 
 -- a line between rows: it opens a row, or closes the text
 abbrev pub in_between : State → Said → Option State
-in_between s (begin v) = cond (nat_lt (length s.rows) window_rows) (cond (bytes_eq v (codes "STANDARD")) (Some (state (Inside Standard Empty) s.name s.until s.rows)) (cond (bytes_eq v (codes "DAYLIGHT")) (Some (state (Inside Daylight Empty) s.name s.until s.rows)) None)) None
+in_between s (begin v) = cond (nat_lt (length s.rows) window_rows) (after (observed v) (λ o. Some (state (Inside o Empty) s.name s.until s.rows))) None
 in_between s (end v) = cond (nat_lt 0 (length s.rows) && bytes_eq v (codes "VTIMEZONE")) (Some (state After s.name s.until s.rows)) None
 in_between s (property p v) = None
 in_between s odd = None
@@ -106,7 +116,8 @@ in_row o (Full d x y) s (end v) = cond (bytes_eq v (component o)) (closed s (row
 -- a line at a place
 abbrev pub move : Place → State → Said → Option State
 move Before s l = in_front s l
-move (Head b) s l = in_head b s l
+move Head s l = in_head s l
+move Named s l = in_named s l
 move Between s l = in_between s l
 move (Inside o q) s l = in_row o q s l
 move After s l = None
@@ -115,18 +126,9 @@ move After s l = None
 abbrev pub step : State → Said → Option State
 step s l = move s.place s l
 
--- there is room for the rows: for one more inside a row
-abbrev pub Room : Place → ℕ → Type 0
-Room Before n = n ≤ window_rows
-Room (Head b) n = n ≤ window_rows
-Room Between n = n ≤ window_rows
-Room (Inside o q) n = n < window_rows
-Room After n = n ≤ window_rows
-
 -- what a step answers, and the reader after it
-pub record Takes (to : Option State) (r : Bool) (reader : Reader) : Type 0 where
-  pub room : Room reader.place reader.count
-  pub moves : MatchBool r (to ≡ Some (state_of reader)) (to ≡ None)
+abbrev pub Takes : Option State → Option ⊤ → Reader → Type 0
+Takes to r reader = MatchOption r (to ≡ None) (λ _. to ≡ Some (state_of reader))
 
 -- a name and a window, by what they hold
 pub record Zone : Type 0 where
@@ -140,7 +142,7 @@ zone n i rs = record { name = n; interval = i; rows = rs }
 
 -- what a name and a window of the code hold
 abbrev pub zone_in : Name → Window → Zone
-zone_in n w = zone n.bytes w.interval (vec_items w.rows)
+zone_in n w = zone n.bytes w.interval w.rows.items
 
 -- an interval by its ends
 abbrev pub between : ℤ → ℤ → Interval
@@ -157,7 +159,8 @@ fails o = refused 15 (o ∷ [])
 -- the reader stands after the text
 abbrev pub is_after : Place → Bool
 is_after Before = false
-is_after (Head b) = false
+is_after Head = false
+is_after Named = false
 is_after Between = false
 is_after (Inside o q) = false
 is_after After = true
@@ -181,10 +184,10 @@ run s o (line l ls) = or_fail (step s (said l)) o (λ s'. run s' (o + (length l 
 unfoldable pub reading : List ℕ → Outcome Zone
 reading t = run start 0 (cut t)
 
--- what a scan of the code comes to
-abbrev pub scanned : Result Reader Refusal → Outcome Zone
+-- what a scan of the code comes to: what is read, or the byte at which the text fails
+abbrev pub scanned : Result Reader ℕ → Outcome Zone
 scanned (Ok r) = answered (zone_read (state_of r))
-scanned (Err e) = refused (number e) (values e)
+scanned (Err o) = fails o
 
 -- what a call that answers a name and fills a window comes to
 abbrev pub told : Outcome Name → Window → Outcome Zone

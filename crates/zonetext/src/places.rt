@@ -1,4 +1,10 @@
 // Where a reader of the text stands, and what it has read.
+ghost use Rattle.std.specs.Prelude.{◌+◌, ◌≤◌};
+ghost use Rattle.arrayvec.specs.ArrayVec.{array_vec_len};
+ghost use Rattle.zone.specs.Rows.{window_rows};
+ghost use Rattle.zonetext.specs.Begun.{begun};
+
+use arrayvec::ArrayVec;
 use calendar::dates::Seconds;
 use fields::types::Offset;
 use zone::deciding::WINDOW_ROWS;
@@ -13,22 +19,24 @@ pub enum Part {
     Full(Seconds, Offset, Offset),
 }
 
-/// Where a reader stands: before the text, in its head (and whether the name is read), between rows, inside a row, or after the text.
+/// Where a reader stands: before the text, in its head before the name, in its head before the window's end, between rows, inside a row, or after the text.
 #[derive(Clone, Copy)]
 pub enum Place {
     Before,
-    Head(bool),
+    Head,
+    Named,
     Between,
     Inside(Observance, Part),
     After,
 }
 
-/// A reader: its place, the name and the window's end that it has read, and the first `count` of the rows.
+/// A reader: its place, and the name, the window's end and the rows that it has read. There is room for the row that it is inside of.
+// The name and the window's end stand beside the place, and not in it: they are kept from their line to the end of the text.
 #[derive(Drop)]
 pub struct Reader<'a> {
     pub place: Place,
     pub name: &'a [u8],
     pub until: Instant,
-    pub rows: [Row; WINDOW_ROWS],
-    pub count: usize,
+    pub rows: ArrayVec<Row, WINDOW_ROWS>,
+    ghost room: { array_vec_len rows + begun place ≤ window_rows },
 }

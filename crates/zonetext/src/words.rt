@@ -1,5 +1,11 @@
 // The fixed names of the text, which the reader compares and the writer puts.
 
+/// Ends a line.
+pub const CR_LF: &[u8] = b"\r\n";
+
+/// Ends a time that is in UTC.
+pub const UTC: &[u8] = b"Z";
+
 /// Opens a component.
 pub const BEGIN: &[u8] = b"BEGIN";
 

@@ -1,3 +1,4 @@
+-- Lemmas on texts put into a buffer.
 pub mod Placing
 pub mod Rowing
 pub mod Framing

@@ -1,18 +1,11 @@
 -- Texts put into a buffer, one after another. Assumes nothing.
-use Rattle.std.proofs.Common.{◌≡◌, ℕ, ◌+◌, ◌-◌, ◌≤◌, List, [], ◌++◌, length, take, drop, sym, ap, ◌∙◌, subst, arith}
-use borrow.Rule.Slice.PartMut.{put_mid}
+use Rattle.std.proofs.Common.{◌≡◌, ℕ, ◌+◌, ◌≤◌, List, [], ◌++◌, length, take, drop, sym, refl, ap, ◌∙◌, subst, arith}
 use Rattle.std.proofs.lemmas.List.{append_assoc, drop-drop, take_at, drop_at, length-append, length-take-le, take-append-drop}
-use Rattle.zonewriter.specs.Buffers.{placed, Puts}
-
-pub placed_part : (d s w : List ℕ) (a : ℕ) → w ≡ s → put_mid a (a + length s - a) d w ≡ placed d a s
-unfolding placed
-placed_part d s w a e =
-    let n : a + length s - a ≡ length s = omega arith in
-    (λ j. take a d ++ (e j ++ drop (n j) (drop a d))) ∙ ap (λ l. take a d ++ (s ++ l)) (drop-drop (length s) a d)
+use Rattle.zonewriter.specs.declared.putting.Writer.{Writer}
+use Rattle.zonewriter.specs.Puts.{placed, Puts}
 
 -- s, and then s' after it
 placed_more : (d s s' : List ℕ) (a b : ℕ) → a ≤ length d → b ≡ a + length s → placed (placed d a s) b s' ≡ placed d a (s ++ s')
-unfolding placed
 placed_more d s s' a b h e =
     let q = drop (a + length s) d in
     let x = take a d ++ s in
@@ -25,23 +18,19 @@ placed_more d s s' a b h e =
     ∙ append_assoc (take a d) s _
     ∙ ap (λ l. take a d ++ l) (sym (append_assoc s s' _))
 
-pub placed_front : (d s : List ℕ) → placed d 0 s ≡ s ++ drop (length s) d
-unfolding placed
-placed_front d s = ap (λ k. s ++ drop k d) (let z : 0 + length s ≡ length s = omega arith in z)
-
 -- nothing is put
-pub puts_none : (d : List ℕ) (a : ℕ) → Puts d a [] d a
-unfolding placed
-puts_none d a = record { end = omega arith; after = sym (ap (λ k. take a d ++ drop k d) (let z : a + 0 ≡ a = omega arith in z) ∙ take-append-drop a d) }
+pub puts_none : (w : Writer) → Puts w [] w
+puts_none w = record { len = omega arith; bytes = sym (ap (λ k. take w.len w.buffer.now ++ drop k w.buffer.now) (let z : w.len + 0 ≡ w.len = omega arith in z) ∙ take-append-drop w.len w.buffer.now); size = refl }
 
 -- one text and then another
-pub puts_more : {d e f s s' : List ℕ} {a b c : ℕ} → a ≤ length d → Puts d a s e b → Puts e b s' f c → Puts d a (s ++ s') f c
-puts_more {d} {e} {f} {s} {s'} {a} {b} {c} h p q =
+pub puts_more : {u v w : Writer} {s s' : List ℕ} → u.len ≤ length u.buffer.now → Puts u s v → Puts v s' w → Puts u (s ++ s') w
+puts_more {u} {v} {w} {s} {s'} h p q =
     record {
-      end = let l = length-append s s' in omega (arith, p.end, q.end);
-      after = q.after ∙ ap (λ l. placed l b s') p.after ∙ placed_more d s s' a b h p.end;
+      len = let l = length-append s s' in omega (arith, p.len, q.len);
+      bytes = q.bytes ∙ ap (λ l. placed l v.len s') p.bytes ∙ placed_more u.buffer.now s s' u.len v.len h p.len;
+      size = q.size ∙ p.size;
     }
 
 -- the same text
-pub puts_same : {d e s s' : List ℕ} {a b : ℕ} → s ≡ s' → Puts d a s e b → Puts d a s' e b
-puts_same {d} {e} {s} {s'} {a} {b} is p = subst (λ t. Puts d a t e b) is p
+pub puts_same : {u w : Writer} {s s' : List ℕ} → s ≡ s' → Puts u s w → Puts u s' w
+puts_same {u} {w} is p = subst (λ t. Puts u t w) is p

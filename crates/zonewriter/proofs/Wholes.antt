@@ -1,7 +1,13 @@
 -- The whole text in the buffer, and when it is refused. Assumes nothing.
-use Rattle.std.proofs.Common.{◌≡◌, ℕ, ◌+◌, ◌<◌, ◌≤◌, true, cond, ◌&&◌, leb, List, [], ◌++◌, length, take, drop, vec_items, codes, sym, ap, ◌∙◌, subst, arith}
-use Rattle.std.specs.List.{flat_map, AllByRecursion}
+use Rattle.std.proofs.Common.{◌≡◌, ℕ, ◌+◌, ◌<◌, ◌≤◌, All, sum_by, get_or, ⊎_elim, true, cond, ◌&&◌, leb, List, [], ◌++◌, length, take, drop, codes, sym, ap, ◌∙◌, subst, arith}
+use Rattle.std.specs.List.{flat_map}
 use Rattle.std.proofs.lemmas.List.{append_assoc, take_at}
+use Rattle.std.proofs.lemmas.List.Concat.{length-flat_map}
+use Rattle.std.proofs.lemmas.List.Sums.{sum_by-le}
+use Rattle.std.proofs.ByRecursion.{All-get_or}
+use Rattle.fields.specs.Offsets.{offset, printed}
+use Rattle.fields.specs.declared.types.Offset.{Offset}
+use Rattle.fields.proofs.Shapes.{offset_length}
 use Rattle.std.proofs.lemmas.Bool.{and_from, and_right, and_parts, cond-true, cond-false, le-leb, lt-leb, leb-true}
 use Rattle.names.specs.declared.name.Name.{Name}
 use Rattle.zone.specs.declared.rows.Row.{Row}
@@ -15,12 +21,14 @@ use Rattle.zonetext.specs.Writing.{line_text, row_text, head_text, text_of, IsZo
 use Rattle.zonetext.proofs.Back.{back}
 use Rattle.zonetext.proofs.Fitting.{rows_writable}
 use Rattle.zonetext.proofs.Padding.{name_back}
-use Rattle.zonewriter.specs.Buffers.{Puts}
+use Rattle.zonewriter.specs.declared.putting.Writer.{Writer}
+use Rattle.zonewriter.specs.Puts.{Puts}
 use Rattle.zonewriter.specs.Written.{writing, written}
 use Rattle.zonewriter.proofs.Framing.{text_length, tail_is}
-use Rattle.zonewriter.proofs.Placing.{placed_front, puts_more, puts_same}
+use Rattle.zonewriter.proofs.Rowing.{row_text_length}
+use Rattle.zonewriter.proofs.Placing.{puts_more, puts_same}
 
-pub window_sound : (w : Window) → Sound window_rows w.interval (vec_items w.rows)
+pub window_sound : (w : Window) → Sound window_rows w.interval (w.rows.items)
 window_sound w = record { in_era = w.era; covers = record { begins = w.begins; joined = w.joined; ends = w.ends; small = w.small }; few = w.few }
 
 pub name_short : (bytes : List ℕ) → length bytes ≡ 48 → is_name bytes ≡ true → length (spelled bytes) ≤ 48
@@ -29,19 +37,28 @@ name_short bytes l h =
     let p = and_parts (leb 1 (length t)) (leb (length t) 48 && name_bytes t) (name_back bytes l h).0 in
     leb-true (length t) 48 (and_parts (leb (length t) 48) (name_bytes t) p.1).0
 
-pub window_writable : (w : Window) (rows : List Row) → rows ≡ vec_items w.rows → AllByRecursion Writable rows
-window_writable w rows e = subst (AllByRecursion Writable) (sym e) (rows_writable window_rows w.interval (vec_items w.rows) (window_sound w))
+pub window_writable : (w : Window) (rows : List Row) → rows ≡ w.rows.items → All Writable rows
+window_writable w rows e = subst (All Writable) (sym e) (λ k d h. All-get_or Writable w.rows.items k d h (rows_writable window_rows w.interval w.rows.items (window_sound w)))
+
+offset_short : (z : Offset) → length (printed z) ≤ 7
+offset_short z = ⊎_elim (λ e. omega (arith, e)) (λ e. omega (arith, e)) (offset_length z).either
+
+row_small : (r : Row) → length (row_text r) ≤ 97
+row_small r = omega (arith, row_text_length r, offset_short (offset r.from), offset_short (offset r.to))
+
+-- 64 rows have a text of 6208 bytes at most
+pub rows_small : (rows : List Row) → length rows ≤ 64 → sum_by (λ r. length (row_text r)) rows ≤ 6208
+rows_small rows h = omega (arith, h, sum_by-le (λ r. length (row_text r)) 97 rows (λ k d l. row_small (get_or rows k d)))
 
 pub zone_there : (n : Name) (w : Window) → length n.bytes ≡ 48 → is_name n.bytes ≡ true → IsZone (zone_in n w)
 zone_there n w l h = record { long = l; named = h; window = window_sound w }
 
+pub rows_length : (rows : List Row) → length (flat_map row_text rows) ≡ sum_by (λ r. length (row_text r)) rows
+rows_length rows = length-flat_map row_text rows
+
 -- the length, by the parts of the code
-pub same_length : (n : Name) (w : Window) (t : List ℕ) (rows : List Row) (len : ℕ) → t ≡ spelled n.bytes → rows ≡ vec_items w.rows → len ≡ 65 + length t + length (flat_map row_text rows) → len ≡ length (text_of (zone_in n w))
-same_length n w t rows len e f g =
-    let a = ap length e in
-    let b = ap (λ x. length (flat_map row_text x)) f in
-    let c = text_length (zone_in n w) in
-    omega arith
+pub same_length : (n : Name) (w : Window) (t : List ℕ) (rows : List Row) → t ≡ spelled n.bytes → rows ≡ w.rows.items → 65 + length t + sum_by (λ r. length (row_text r)) rows ≡ length (text_of (zone_in n w))
+same_length n w t rows e f = omega (arith, ap length e, ap (sum_by (λ r. length (row_text r))) f, rows_length w.rows.items, text_length (zone_in n w))
 
 -- the buffer is too short
 pub short_is : (z : Zone) (n : ℕ) → is_name z.name ≡ true → n < length (text_of z) → refused 16 [] ≡ writing z n
@@ -52,16 +69,20 @@ short_is z n h l =
 pub short_after : (z : Zone) (b : List ℕ) → length b < length (text_of z) → b ≡ written z b
 short_after z b l = sym (cond-false (is_name z.name && leb (length (text_of z)) (length b)) (text_of z ++ drop (length (text_of z)) b) b (and_right (is_name z.name) (leb (length (text_of z)) (length b)) (lt-leb _ _ l)))
 
+-- what is put at the front of a buffer
+puts_front : {a b : Writer} {s : List ℕ} → a.len ≡ 0 → Puts a s b → (b.len ≡ length s) × (b.buffer.now ≡ s ++ drop (length s) a.buffer.now)
+puts_front {a} {b} {s} e p =
+    let zero : 0 + length s ≡ length s = omega arith in
+    (omega (arith, e, p.len), p.bytes ∙ ap (λ k. take k a.buffer.now ++ (s ++ drop (k + length s) a.buffer.now)) e ∙ ap (λ k. s ++ drop k a.buffer.now) zero)
+
 -- the text is put
-pub whole_put : (z : Zone) (t : List ℕ) (rows : List Row) → t ≡ spelled z.name → rows ≡ z.rows → {d e f g : List ℕ} {a b r : ℕ} → Puts d 0 (head_text t z.interval.end) e a → Puts e a (flat_map row_text rows) f b → Puts f b (line_text (codes "END") (codes "VTIMEZONE")) g r → (r ≡ length (text_of z)) × (g ≡ text_of z ++ drop (length (text_of z)) d)
-whole_put z t rows is-t is-rows {d} {e} {f} {g} {a} {b} {r} p q s =
-    let h : 0 ≤ length d = omega arith in
-    let x = head_text (spelled z.name) z.interval.end in
+pub whole_put : (z : Zone) (t : List ℕ) (rows : List Row) → t ≡ spelled z.name → rows ≡ z.rows → {a b c d : Writer} → a.len ≡ 0 → Puts a (head_text t z.interval.end) b → Puts b (flat_map row_text rows) c → Puts c (line_text (codes "END") (codes "VTIMEZONE")) d
+    → (d.len ≡ length (text_of z)) × (d.buffer.now ≡ text_of z ++ drop (length (text_of z)) a.buffer.now)
+whole_put z t rows is-t is-rows {a} front p q s =
+    let h : a.len ≤ length a.buffer.now = omega (arith, front) in
     let all : (head_text t z.interval.end ++ flat_map row_text rows) ++ line_text (codes "END") (codes "VTIMEZONE") ≡ text_of z =
     append_assoc (head_text t z.interval.end) (flat_map row_text rows) (line_text (codes "END") (codes "VTIMEZONE")) ∙ (λ i. head_text (is-t i) z.interval.end ++ (flat_map row_text (is-rows i) ++ sym tail_is i)) in
-    let w = puts_same all (puts_more h (puts_more h p q) s) in
-    let zero : 0 + length (text_of z) ≡ length (text_of z) = omega arith in
-    (w.end ∙ zero, w.after ∙ placed_front d (text_of z))
+    puts_front front (puts_same all (puts_more h (puts_more h p q) s))
 
 pub whole_is : (z : Zone) (n r : ℕ) → is_name z.name ≡ true → length (text_of z) ≤ n → r ≡ length (text_of z) → answered r ≡ writing z n
 whole_is z n r h l e =

@@ -1,2 +1,3 @@
-pub mod Buffers
+pub mod Puts
+pub mod RowTexts
 pub mod Written

@@ -1,25 +1,45 @@
 // Bytes and lines put into a buffer, one after another.
-ghost use Rattle.std.specs.Prelude.{◌+◌, ◌≤◌, length};
+ghost use Rattle.std.specs.Prelude.{◌≡◌, ◌+◌, ◌≤◌, length};
 ghost use Rattle.zonetext.specs.Writing.{line_text};
-ghost use Rattle.zonewriter.specs.Buffers.{Puts};
+ghost use Rattle.zonewriter.specs.Puts.{HasRoom, Puts};
 
-// Puts the bytes at `at`, and answers where they end.
-fn put(buffer: &mut [u8], at: usize, bytes: &[u8]) -> usize
-    requires { at + length bytes.now ≤ length buffer.old }
-    ensures { Puts buffer.old at bytes.now buffer.new result }
-{
-    let end = at + bytes.len();
-    buffer[at..end].copy_from_slice(bytes);
-    end
+/// A buffer that is lent, and how many of its bytes are written.
+#[derive(Drop)]
+pub(crate) struct Writer<'a> {
+    buffer: &'a mut [u8],
+    pub(crate) len: usize,
 }
 
-/// Puts a line at `at`, with its CR LF, and answers where it ends.
-pub(crate) fn put_line(buffer: &mut [u8], at: usize, name: &[u8], value: &[u8]) -> usize
-    requires { at + length (line_text name.now value.now) ≤ length buffer.old }
-    ensures { Puts buffer.old at (line_text name.now value.now) buffer.new result }
-{
-    let colon = put(buffer, at, name);
-    let start = put(buffer, colon, b":");
-    let end = put(buffer, start, value);
-    put(buffer, end, b"\r\n")
+impl<'a> Writer<'a> {
+    /// A writer that stands at the front of the buffer.
+    pub(crate) fn new(buffer: &'a mut [u8]) -> Writer<'a>
+        ensures same_buffer { result.buffer.ghost_name ≡ buffer.entry.ghost_name }
+        ensures bytes { result.buffer.now ≡ buffer.old }
+        ensures front { result.len ≡ 0 }
+    {
+        Writer { buffer, len: 0 }
+    }
+
+    /// Puts the bytes.
+    fn put(&mut self, bytes: &[u8])
+        requires { HasRoom self.old bytes.now }
+        ensures same_buffer { self.new.buffer.ghost_name ≡ self.old.buffer.ghost_name }
+        ensures puts { Puts self.old bytes.now self.new }
+    {
+        let end = self.len + bytes.len();
+        self.buffer[self.len..end].copy_from_slice(bytes);
+        self.len = end;
+    }
+
+    /// Puts a line, with its CR LF.
+    pub(crate) fn line(&mut self, name: &[u8], value: &[u8])
+        requires { HasRoom self.old (line_text name.now value.now) }
+        ensures same_buffer { self.new.buffer.ghost_name ≡ self.old.buffer.ghost_name }
+        ensures puts { Puts self.old (line_text name.now value.now) self.new }
+    {
+        self.put(name);
+        self.put(b":");
+        self.put(value);
+        self.put(b"\r\n");
+    }
 }

@@ -1,16 +1,16 @@
 // The text of a zone over a window, written into a buffer.
-ghost use Rattle.std.specs.Prelude.{◌≡◌, ◌+◌, ◌≤◌, length};
-ghost use Rattle.std.specs.List.{flat_map, AllByRecursion};
+ghost use Rattle.std.specs.Prelude.{◌≡◌, ◌+◌, ◌^◌, ◌<◌, All, length, sum_by};
+ghost use Rattle.std.specs.List.{flat_map};
 ghost use Rattle.calendar.specs.Calendar.{InRange};
 ghost use Rattle.zone.specs.Refusals.{outcome};
 ghost use Rattle.zonetext.specs.Reading.{zone_in};
-ghost use Rattle.zonetext.specs.Writing.{Writable, head_text, row_text, until_text};
-ghost use Rattle.zonewriter.specs.Buffers.{Puts};
+ghost use Rattle.zonetext.specs.Writing.{Writable, head_text, row_text, until_text as text_of_end};
+ghost use Rattle.zonewriter.specs.Puts.{HasRoom, Puts};
 ghost use Rattle.zonewriter.specs.Written.{ReadsBack, writing as what_comes, written};
 
-use super::printing::stamp_bytes;
-use super::putting::put_line;
-use super::rowtexts::{put_row, row_len};
+use super::printing::stamp_text;
+use super::putting::Writer;
+use super::rowtexts::row_len;
 use calendar::dates::Seconds;
 use names::name::Name;
 use zone::refusals::Refusal;
@@ -23,55 +23,48 @@ const FRAME_BYTES: usize = 65;
 
 // The length of the text with this name and these rows.
 fn text_len(name: &[u8], rows: &[Row]) -> usize
-    requires { (length name.now ≤ 48) × ((length rows.now ≤ 64) × (AllByRecursion Writable rows.now)) }
-    ensures { result ≡ 65 + length name.now + length (flat_map row_text rows.now) }
+    requires fits { 65 + length name.now + sum_by (λ r. length (row_text r)) rows.now < 2 ^ 64 }
+    requires writable { All Writable rows.now }
+    ensures { result ≡ 65 + length name.now + sum_by (λ r. length (row_text r)) rows.now }
 {
-    let mut len = FRAME_BYTES + name.len();
-    for row in rows {
-        len += row_len(*row);
-    }
-    len
-}
-
-// The window's end, as a stamp in UTC has it.
-fn end_of(interval: Interval) -> Seconds
-    ensures { result.0 ≡ interval.end }
-{
-    Seconds(interval.end)
+    FRAME_BYTES + name.len() + rows.iter().map(|row| row_len(*row)).sum::<usize>()
 }
 
 // The window's end in UTC, as text.
-fn until_bytes(interval: Interval) -> [u8; 16]
+fn until_text(interval: Interval) -> [u8; 16]
     requires { InRange interval.end }
-    ensures { result ≡ until_text interval.end }
+    ensures { result ≡ text_of_end interval.end }
 {
-    let stamp = stamp_bytes(end_of(interval));
     let mut until = [b'Z'; 16];
-    until[0..15].copy_from_slice(&stamp);
+    until[0..15].copy_from_slice(&stamp_text(Seconds(interval.end)));
     until
 }
 
-// Puts the lines before the rows at the front of the buffer, and answers where they end.
-fn put_head(buffer: &mut [u8], name: &[u8], interval: Interval) -> usize
-    requires { (InRange interval.end) × (length (head_text name.now interval.end) ≤ length buffer.old) }
-    ensures { Puts buffer.old 0 (head_text name.now interval.end) buffer.new result }
-{
-    let until = until_bytes(interval);
-    let a = put_line(buffer, 0, BEGIN, VTIMEZONE);
-    let b = put_line(buffer, a, TZID, name);
-    put_line(buffer, b, TZUNTIL, &until)
-}
-
-// Puts the texts of the rows at `at`, and answers where they end.
-fn put_rows(buffer: &mut [u8], at: usize, rows: &[Row]) -> usize
-    requires { (AllByRecursion Writable rows.now) × (at + length (flat_map row_text rows.now) ≤ length buffer.old) }
-    ensures { Puts buffer.old at (flat_map row_text rows.now) buffer.new result }
-{
-    let mut end = at;
-    for row in rows {
-        end = put_row(buffer, end, *row);
+impl Writer<'_> {
+    // Puts the lines before the rows.
+    #[tactic(auto, using(crate::proofs::Framing::head_lengths))]
+    fn head(&mut self, name: &[u8], interval: Interval)
+        requires in_range { InRange interval.end }
+        requires room { HasRoom self.old (head_text name.now interval.end) }
+        ensures same_buffer { self.new.buffer.ghost_name ≡ self.old.buffer.ghost_name }
+        ensures puts { Puts self.old (head_text name.now interval.end) self.new }
+    {
+        self.line(BEGIN, VTIMEZONE);
+        self.line(TZID, name);
+        self.line(TZUNTIL, &until_text(interval));
     }
-    end
+
+    // Puts the texts of the rows.
+    fn rows(&mut self, rows: &[Row])
+        requires writable { All Writable rows.now }
+        requires room { HasRoom self.old (flat_map row_text rows.now) }
+        ensures same_buffer { self.new.buffer.ghost_name ≡ self.old.buffer.ghost_name }
+        ensures puts { Puts self.old (flat_map row_text rows.now) self.new }
+    {
+        for row in rows {
+            self.row(*row);
+        }
+    }
 }
 
 /// Writes the text of the name and the window at the front of the buffer, and answers its length; the bytes past it stay as they were. Refuses a name that is none, and a buffer that is too short, and leaves the buffer as it was.
@@ -88,7 +81,9 @@ pub fn write(name: Name, window: &Window, buffer: &mut [u8]) -> Result<usize, Re
     if text_len(text, rows) > buffer.len() {
         return Err(Refusal::BufferTooShort);
     }
-    let a = put_head(buffer, text, window.interval);
-    let b = put_rows(buffer, a, rows);
-    Ok(put_line(buffer, b, END, VTIMEZONE))
+    let mut out = Writer::new(buffer);
+    out.head(text, window.interval);
+    out.rows(rows);
+    out.line(END, VTIMEZONE);
+    Ok(out.len)
 }

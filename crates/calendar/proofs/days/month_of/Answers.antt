@@ -5,23 +5,16 @@ use Rattle.calendar.proofs.Sum.{between_more, between_order, months_year, year_d
 use Rattle.calendar.proofs.Closed.{month_guess, month_guess_next}
 use Rattle.calendar.proofs.days.month_of.Goals as goal
 
-pub overflow_sub-result : goal.overflow_sub-result
-overflow_sub-result c = omega (arith, month_guess c.args.year c.args.days (omega (arith, year_days_le c.args.year)))
-
-pub returns-then-days-next : goal.returns-then-days-next
-returns-then-days-next c =
+pub returns-then-days-next-clause-rest : goal.returns-then-days-next-clause-rest
+returns-then-days-next-clause-rest c =
+    let y = c.args.year in
     let d = c.args.days in
-    let m : ℕ = 1 + d / 31 in
-    let year = year_days_le c.args.year in
-    let low = month_guess c.args.year d (omega arith) in
-    let more = between_more (month_days c.args.year) 1 m (omega arith) in
-    record { sum = omega arith; rest = omega arith; range = (omega arith, omega arith) }
+    omega (arith, month_guess y d (omega (arith, year_days_le y)), between_more (month_days y) 1 (1 + d / 31) (omega arith))
 
-pub returns-else-days-next : goal.returns-else-days-next
-returns-else-days-next c =
+pub returns-else-days-next-clause-rest : goal.returns-else-days-next-clause-rest
+returns-else-days-next-clause-rest c =
+    let y = c.args.year in
     let d = c.args.days in
     let m : ℕ = 1 + d / 31 + 1 in
-    let last : m < 13 = between_order (month_days c.args.year) 1 m 13 (omega arith) (omega (arith, months_year c.args.year)) in
-    let high = month_guess_next c.args.year d last in
-    let more = between_more (month_days c.args.year) 1 m (omega arith) in
-    record { sum = omega arith; rest = omega arith; range = (omega arith, omega arith) }
+    let last : m < 13 = between_order (month_days y) 1 m 13 (omega arith) (omega (arith, months_year y)) in
+    omega (arith, month_guess_next y d last, between_more (month_days y) 1 m (omega arith))

@@ -1,20 +1,11 @@
-use Rattle.std.proofs.Common.{length, take, ap, ◌∙◌}
-use native.Mathlib.Nat.{sub-zero}
+-- What was written is the text.
+use Rattle.std.proofs.Common.{sym, ap, ◌∙◌}
+use Rattle.std.specs.Bool.{then_some}
 use Rattle.zonetext.specs.Reading.{zone_in}
-use Rattle.copies.proofs.Again.{after_is, ok_same, not_same, err_fits}
+use Rattle.copies.proofs.Again.{rewritten}
 use Rattle.copies.proofs.copying.rewrite.Goals as goal
 
-pub returns-else-same : goal.returns-else-same
-returns-else-same c =
-    let z = zone_in c.args.name c.args.window.now in
-    let w = c.write.new.buffer in
-    let e = ok_same z c.args.text.now c.args.buffer.now w c.in-Ok.n c.requires c.in-Ok.ensures.is c.in-Ok.ensures.after in
-    absurd (not_same _ _ c.if-same.ensures (ap (λ k. take k w) (sub-zero c.in-Ok.n) ∙ e))
-
-pub returns-in-Err : goal.returns-in-Err
-returns-in-Err c =
-    let z = zone_in c.args.name c.args.window.now in
-    record {
-      is = err_fits z c.args.text.now (length c.args.buffer.now) _ _ c.requires c.in-Err.ensures.is;
-      after = c.in-Err.ensures.after ∙ after_is z c.args.text.now c.args.buffer.now c.requires;
-    }
+pub returns-clause-is : goal.returns-clause-is
+returns-clause-is c =
+    c.then_some.ensures ∙ ap (λ x. then_some x c.in_ok-n.n) c.eq.ensures
+    ∙ rewritten (zone_in c.args.name c.args.window.now) c.args.text.now c.args.buffer.now c.write.new.buffer c.write.result c.in_ok-n.n c.requires c.write.ensures.is c.write.ensures.after (sym c.ok.ensures.value ∙ c.in_ok-n.was)

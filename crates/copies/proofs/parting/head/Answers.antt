@@ -1,17 +1,29 @@
-use Rattle.std.proofs.Common.{sym, ap, ◌∙◌}
+-- The word, the first LF, and the digits between them.
+use Rattle.std.proofs.Common.{◌+◌, drop, Some, None, sym, ap, ◌∙◌, rules}
+use Rattle.std.specs.Option.{option_and_then}
 use Rattle.std.proofs.lemmas.List.{take_rest}
-use Rattle.copies.specs.Heads.{counted_after}
-use Rattle.copies.proofs.Counted.{too_few, no_word, no_digit, is_told}
+use Rattle.copies.specs.Heads.{head_seen}
+use Rattle.copies.proofs.Counted.{FirstLf, told_some, told_none}
 use Rattle.copies.proofs.parting.head.Goals as goal
-use Rattle.copies.proofs.parting.head.Goals.{then-bytes-lt6-via-then-bytes-lt6, then-bytes-lt6-via-else-bytes-lt6+then-not-same, then-bytes-lt6-via-else-bytes-lt6+else-not-same+then-not-is_digit}
 
-pub returns-then-bytes-lt6 : goal.returns-then-bytes-lt6
-returns-then-bytes-lt6 c =
-    elim c.then-bytes-lt6.branch [
-      | then-bytes-lt6-via-then-bytes-lt6 w ↦ too_few c.args.bytes.now w.if-bytes-lt6.true
-      | then-bytes-lt6-via-else-bytes-lt6+then-not-same w ↦ no_word c.args.bytes.now (sym w.if-not-same.ensures)
-      | then-bytes-lt6-via-else-bytes-lt6+else-not-same+then-not-is_digit w ↦ no_digit c.args.bytes.now (sym w.if-not-is_digit.ensures)
-    ]
+pub returns-in_err-end-clause-is : goal.returns-in_err-end-clause-is
+returns-in_err-end-clause-is c =
+    let word = c.in_ok-line.ensures.cases in
+    let f : FirstLf c.in_ok-line.line.now None = search rules in
+    ap head_seen c.from_residual-in_err-end.ensures ∙ sym (told_none c.args.bytes.now c.in_ok-line.line.now word.0 word.1 f)
 
-pub returns : goal.returns
-returns c = c.count.ensures ∙ (ap (counted_after 0) (take_rest c.args.bytes.now 5) ∙ is_told c.args.bytes.now (sym c.if-not-same.ensures) (sym c.if-not-is_digit.ensures))
+pub returns-in_err-len-clause-is : goal.returns-in_err-len-clause-is
+returns-in_err-len-clause-is c =
+    let word = c.in_ok-line.ensures.cases in
+    let line = c.in_ok-line.line.now in
+    let end = c.in_ok-end.end in
+    let f : FirstLf line (Some end) = search rules in
+    ap head_seen c.from_residual-in_err-len.ensures ∙ sym (told_some c.args.bytes.now line end word.0 word.1 f ∙ ap (option_and_then (λ m. Some (m, drop (end + 1) line))) (sym c.number.ensures ∙ c.in_err-len.was))
+
+pub returns-clause-is : goal.returns-clause-is
+returns-clause-is c =
+    let word = c.in_ok-line.ensures.cases in
+    let line = c.in_ok-line.line.now in
+    let end = c.in_ok-end.end in
+    let f : FirstLf line (Some end) = search rules in
+    simp take_rest (sym (told_some c.args.bytes.now line end word.0 word.1 f ∙ ap (option_and_then (λ m. Some (m, drop (end + 1) line))) (sym c.number.ensures ∙ c.in_ok-len.was)))

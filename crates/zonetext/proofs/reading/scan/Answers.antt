@@ -1,29 +1,40 @@
-use Rattle.std.proofs.Common.{arith}
+use Rattle.std.proofs.Common.{Some, arith, sym, ap, ◌∙◌, subst}
 use Rattle.std.proofs.lemmas.List.{take_rest, length-drop}
-use Rattle.zonetext.specs.Reading.{state_of}
-use Rattle.zonetext.proofs.Turns.{going_start, turn_on, turn_stop, turn_late, turn_short, turn_done, step_odd, room_none, room_few}
+use Rattle.zonetext.specs.Lines.{seen}
+use Rattle.zonetext.specs.Reading.{Takes, step, state_of}
+use Rattle.zonetext.proofs.Turns.{going_start, turn_on, turn_stop, turn_done, turn_more, turn_early, step_odd, stopped}
 use Rattle.zonetext.proofs.reading.scan.Goals as goal
 
-pub loop-at-init : goal.loop-at-init
-loop-at-init c = (omega arith, room_none c.new-reader.result.place c.new-reader.result.count c.new-reader.ensures.empty, going_start _ _ c.new-reader.ensures.begins)
+pub loop-n-init : goal.loop-n-init
+loop-n-init c = (omega arith, going_start _ _ c.new-reader.ensures)
 
-pub returns-in_default : goal.returns-in_default
-returns-in_default c = record { is = turn_late _ _ _ c.loop-at.invariant.2 _ c.loop-at-test.true c.in_default.ensures c.end_offset-offset.ensures; few = tt }
+pub returns-in_err-line : goal.returns-in_err-line
+returns-in_err-line c =
+    let s = state_of c.loop-n.reader in
+    let o = c.in_err-line.ensures in
+    let no = ap (λ x. step s (seen x)) o.ok_part ∙ step_odd s in
+    stopped _ _ _ _ o.value o.ok_part c.from_residual.ensures.1 ∙ turn_stop _ _ _ c.loop-n.invariant.1 c.in-Some.n _ c.in-Some.ensures.1 c.parts.ensures no
 
-pub returns-in_default-parts : goal.returns-in_default-parts
-returns-in_default-parts c = record { is = turn_stop _ _ _ c.loop-at.invariant.2 c.in-Some.n _ c.in-Some.ensures.1 c.in_default-parts.ensures (step_odd (state_of c.loop-at.reader)); few = tt }
+pub returns-in_err-ok_or : goal.returns-in_err-ok_or
+returns-in_err-ok_or c =
+    let o = c.in_err-ok_or.ensures in
+    let said = ap seen (sym c.in_ok-line.ensures.ok_part) ∙ c.parts.ensures in
+    let no = subst (λ x. Takes (step (state_of c.loop-n.reader) (seen (Some c.in_ok-line.line))) x c.step.new.self) o.ok_part c.step.ensures in
+    stopped _ _ _ _ o.value o.ok_part c.from_residual-in_err-ok_or.ensures.1 ∙ turn_stop _ _ _ c.loop-n.invariant.1 c.in-Some.n _ c.in-Some.ensures.1 said no
 
-pub returns-then-not-step : goal.returns-then-not-step
-returns-then-not-step c = record { is = turn_stop _ _ _ c.loop-at.invariant.2 c.in-Some.n _ c.in-Some.ensures.1 c.in-Some-parts.ensures c.if-not-step.ensures.moves; few = tt }
-
-pub loop-at-preserved : goal.loop-at-preserved
-loop-at-preserved c =
+pub loop-n-preserved : goal.loop-n-preserved
+loop-n-preserved c =
     let h = c.in-Some.ensures in
     let n = rw (take_rest, length-drop) at h.0 in
-    (omega (arith, n), c.step.ensures.room, turn_on _ _ _ c.loop-at.invariant.2 c.in-Some.n _ _ h.0 h.1 c.in-Some-parts.ensures c.if-not-step.ensures.moves)
+    let said = ap seen (sym c.in_ok-line.ensures.ok_part) ∙ c.parts.ensures in
+    let to = subst (λ x. Takes (step (state_of c.loop-n.reader) (seen (Some c.in_ok-line.line))) x c.step.new.self) c.in_ok-ok_or.ensures.ok_part c.step.ensures in
+    (omega (arith, n), turn_on _ _ _ c.loop-n.invariant.1 c.in-Some.n _ _ h.0 h.1 said to)
 
-pub returns-then-is_done : goal.returns-then-is_done
-returns-then-is_done c = record { is = turn_done _ _ _ c.loop-at-test.false c.loop-at.invariant.2 c.if-is_done.ensures; few = room_few c.loop-at.reader.place _ c.loop-at.invariant.1 }
+pub returns-in-After : goal.returns-in-After
+returns-in-After c = turn_done _ _ _ c.loop-n.invariant.1 c.in_default.ensures (omega arith) c.in-After.is
 
-pub returns-else-is_done : goal.returns-else-is_done
-returns-else-is_done c = record { is = turn_short _ _ _ c.loop-at-test.false c.loop-at.invariant.2 c.if-is_done.ensures; few = tt }
+pub returns-in-After-2 : goal.returns-in-After-2
+returns-in-After-2 c = let i = c.loop-n.invariant in turn_more _ _ _ i.1 c.in_default.ensures i.0 (λ e. omega (arith, e, c.if-at-text.false)) c.in-After.is
+
+pub returns-in_default-place : goal.returns-in_default-place
+returns-in_default-place c = let i = c.loop-n.invariant in turn_early _ _ _ i.1 c.in_default.ensures i.0 c.in_default-place.not-After

@@ -1,16 +1,16 @@
 use Rattle.std.proofs.Common.{◌∙◌}
-use Rattle.zonetext.proofs.Dated.{until_yes, until_long, until_local}
+use Rattle.zonetext.proofs.Dated.{until_utc, until_local}
 use Rattle.zonetext.proofs.values.until_of.Goals as goal
-use Rattle.zonetext.proofs.values.until_of.Goals.{then-text-ne16-via-then-text-ne16, then-text-ne16-via-else-text-ne16+then-not-same}
 
-pub returns-then-text-ne16 : goal.returns-then-text-ne16
-returns-then-text-ne16 c = elim c.then-text-ne16.branch [
-  | then-text-ne16-via-then-text-ne16 w ↦ until_long _ w.if-text-ne16.true
-  | then-text-ne16-via-else-text-ne16+then-not-same w ↦ until_local _ w.if-not-same.ensures
-]
+pub returns-in_err-local : goal.returns-in_err-local
+returns-in_err-local c = c.from_residual.ensures ∙ until_local _ c.in_err-local.ensures.cases
 
-pub returns-in-Some : goal.returns-in-Some
-returns-in-Some c = c.end_at.ensures ∙ until_yes _ _ c.if-text-ne16.false c.if-not-same.ensures c.in-Some.ensures
+pub returns-in_err-start_of : goal.returns-in_err-start_of
+returns-in_err-start_of c =
+    let h = c.in_ok-local.ensures.cases in
+    c.from_residual-in_err-start_of.ensures ∙ until_utc _ _ _ h.0 h.1 h.2 c.in_err-start_of.ensures
 
-pub returns-in-None : goal.returns-in-None
-returns-in-None c = until_yes _ _ c.if-text-ne16.false c.if-not-same.ensures c.in-None.ensures
+pub returns : goal.returns
+returns c =
+    let h = c.in_ok-local.ensures.cases in
+    c.end_at.ensures ∙ until_utc _ _ _ h.0 h.1 h.2 c.in_ok-start_of.ensures

@@ -1,11 +1,10 @@
-use Rattle.std.proofs.Common.{length, ap, ◌∙◌, arith}
-use Rattle.fields.specs.Offsets.{printed}
-use Rattle.zonewriter.proofs.Rowing.{row_bytes}
+use Rattle.std.proofs.Common.{length, ap, ◌∙◌, rules}
+use Rattle.zonewriter.proofs.Rowing.{row_text_length}
 use Rattle.zonewriter.proofs.rowtexts.row_len.Goals as goal
 
-pub returns : goal.returns
-returns c =
-    record {
-      is = row_bytes c.args.row _ _ (c.offset_bytes.ensures.len ∙ ap (λ z. length (printed z)) c.offset_before.ensures) (c.offset_bytes-2.ensures.len ∙ ap (λ z. length (printed z)) c.offset_after.ensures);
-      few = omega (arith, c.offset_bytes.result.within, c.offset_bytes-2.result.within);
-    }
+pub returns-clause-is : goal.returns-clause-is
+returns-clause-is c =
+    let a = c.len.ensures.value ∙ ap length c.offset_text.ensures in
+    let b = c.len-2.ensures.value ∙ ap length c.offset_text-2.ensures in
+    let l = row_text_length c.args.row in
+    search rules
