@@ -67,6 +67,6 @@ fn silent(rt: HostRuntime) -> Result<(), Fail> {
     );
     let mut late = two(heap, 6, zone(heap, b"A", 3)?, zone(heap, b"B", 7)?)?;
     assert_eq!(rt; late.fetch(ask(b"A", 0), &mut place), Err(Refusal::Silent));
-    assert!(rt; late.span().is_same(ERA));
+    assert_eq!(rt; late.span(), ERA);
     Ok(())
 }

@@ -16,7 +16,7 @@ use provider::answers::check;
 use provider::providers::Provider;
 use provider::publishing::Publishing;
 use provider::requests::{Edition, Reply, Request};
-use std::alloc::{AllocError, AllocFailed, Global};
+use std::alloc::{AllocFailed, Global};
 use std::collections::VecDeque;
 use zone::refusals::Refusal;
 use zone::rows::Interval;
@@ -30,36 +30,20 @@ pub struct Line<P> {
     scratch: Window,
 }
 
-// The memory that a line takes.
-fn memory(heap: Global, marks: &[u8]) -> Result<(VecDeque<Fate>, Window), AllocError>
-    ensures { IfOk result (λ m. (m.0.items ≡ fates_of marks.now) × (m.1.interval ≡ era) × (m.1.rows.items ≡ utc ∷ [])) }
-{
-    let fates = fates_of(heap, marks)?;
-    let scratch = Window::new(heap)?;
-    Ok((fates, scratch))
-}
-
 impl<P: Provider> Line<P> {
     /// A line to the provider with a fate for each mark: `p` passes, `q` loses the request, `r` loses the reply. Made of more than 64 bytes or of other bytes it has none. Where there is no memory, the provider is given back.
     pub fn new(heap: Global, below: P, marks: &[u8]) -> Result<Line<P>, AllocFailed<P>>
         ensures made { MatchResult result (λ line. (line.below ≡ below) × (line.fates.items ≡ fates_of marks.now) × (line.scratch.interval ≡ era) × (line.scratch.rows.items ≡ utc ∷ [])) (λ back. back.value ≡ below) }
         ensures order { IfOk result (λ line. P.Provider.in_order below → P.Provider.in_order line.below) }
     {
-        match memory(heap, marks) {
-            Ok((fates, scratch)) => Ok(Line {
+        match (fates_of(heap, marks), Window::new(heap)) {
+            (Ok(fates), Ok(scratch)) => Ok(Line {
                 below,
                 fates,
                 scratch,
             }),
-            Err(_) => Err(AllocFailed { value: below }),
+            _ => Err(AllocFailed { value: below }),
         }
-    }
-
-    // The checks that every fetch begins with, over the span below.
-    fn check_request(&self, request: &Request) -> Result<(), Refusal>
-        ensures { outcome result ≡ checked request.now (P.Provider.span self.now.below) (answered tt) }
-    {
-        check(request, self.below.span())
     }
 
     // Sends the request as its fate says, and brings the reply back or silence.
@@ -100,9 +84,9 @@ impl<P: Provider> Provider for Line<P> {
 
     /// Fetches a page's cut into the lent window.
     fn fetch(&mut self, request: Request, place: &mut Window) -> Result<Reply, Refusal> {
-        self.check_request(&request)?;
-        let reply = self.send(request, place)?;
-        Ok(reply)
+        check(&request, self.span())?;
+        // A refusal from below passes up by `?`, with the edition that it names.
+        Ok(self.send(request, place)?)
     }
 }
 
@@ -113,7 +97,6 @@ impl<P: Publishing> Publishing for Line<P> {
 
     /// Publishes a table over the era for the name, and answers the number of the new edition.
     fn publish(&mut self, name: Name, table: &Table) -> Result<Edition, Refusal> {
-        let edition = self.below.publish(name, table)?;
-        Ok(edition)
+        Ok(self.below.publish(name, table)?)
     }
 }

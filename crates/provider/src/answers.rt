@@ -3,7 +3,7 @@ ghost use Rattle.std.specs.Prelude.{◌≡◌, ◌==◌};
 ghost use Rattle.zone.specs.Refusals.{answered, outcome};
 ghost use Rattle.provider.specs.Fetching.{checked, inside_answer, judged, Leaves, RowsTold};
 
-use super::requests::{Edition, Reply, Request, Tag};
+use super::requests::{Reply, Request, Tag, Version};
 use cutting::cuts::{cut_rows, cut_window};
 use cutting::filling::is_cut_small;
 use zone::deciding::is_table;
@@ -28,24 +28,26 @@ pub fn check(request: &Request, span: Interval) -> Result<(), Refusal>
     Ok(())
 }
 
-// Whether the tag is the one that the asker has the page of.
-fn is_known(tag: Tag, request: Request) -> bool
-    ensures { result ≡ (tag == request.known) }
-{
-    tag == request.known
+impl Request {
+    // Whether the asker has the page of this tag; both answers below ask it.
+    fn knows(&self, tag: Tag) -> bool
+        ensures { result ≡ (tag == self.now.known) }
+    {
+        tag == self.known
+    }
 }
 
 /// The answer from a page of rows over the interval `of`. Refused with 13 where the rows are no table's, with 3 where the interval asked for is not inside, with 6 where its cut has too many rows.
 pub fn answer_rows(
     of: Interval,
     rows: &[Row],
-    edition: Edition,
-    tag: Tag,
+    version: Version,
     request: Request,
     place: &mut Window,
 ) -> Result<Reply, Refusal>
-    ensures { RowsTold of edition request (record { tag = tag; rows = rows.now }) result place.old place.new }
+    ensures { RowsTold of version.edition request (record { tag = version.tag; rows = rows.now }) result place.old place.new }
 {
+    let Version { edition, tag } = version;
     if !is_table(of, rows) {
         return Err(Refusal::NotATable);
     }
@@ -55,30 +57,31 @@ pub fn answer_rows(
     if !is_cut_small(rows, request.interval) {
         return Err(Refusal::TooManyRows { edition });
     }
-    if is_known(tag, request) {
+    if request.knows(tag) {
         return Ok(Reply::Unchanged { edition });
     }
-    let _ = cut_rows(of, rows, request.interval, place);
+    cut_rows(of, rows, request.interval, place).unwrap();
     Ok(Reply::Fresh { edition, tag })
 }
 
 /// The answer from a page that a window holds. Refused with 3 where the interval asked for is not inside.
+#[tactic(auto, using(crate::proofs::Pages::window_cut))]
 pub fn answer_window(
     window: &Window,
-    edition: Edition,
-    tag: Tag,
+    version: Version,
     request: Request,
     place: &mut Window,
 ) -> Result<Reply, Refusal>
-    ensures told { judged result place.new ≡ inside_answer window.now.interval edition request (record { tag = tag; rows = window.now.rows.items }) }
+    ensures told { judged result place.new ≡ inside_answer window.now.interval version.edition request (record { tag = version.tag; rows = window.now.rows.items }) }
     ensures leaves { Leaves result request.interval place.old place.new }
 {
+    let Version { edition, tag } = version;
     if !request.interval.is_within(window.interval) {
         return Err(Refusal::OutsideSpan);
     }
-    if is_known(tag, request) {
+    if request.knows(tag) {
         return Ok(Reply::Unchanged { edition });
     }
-    let _ = cut_window(window, request.interval, place);
+    cut_window(window, request.interval, place).unwrap();
     Ok(Reply::Fresh { edition, tag })
 }

@@ -8,11 +8,19 @@ pub type Edition = u16;
 /// A number that stands for a table of a zone: two pages of a zone with the same tag have the same table. 0 stands for none.
 pub type Tag = u16;
 
+/// Which page of a zone: the edition that it is from, and its tag.
+#[derive(Clone, Copy, PartialEq, Eq, Debug)]
+pub struct Version {
+    pub edition: Edition,
+    pub tag: Tag,
+}
+
 /// A zone and an interval that are asked for, and the tag that the asker has the page of, or 0.
 #[derive(Clone, Copy)]
 pub struct Request {
     pub name: Name,
     pub interval: Interval,
+    // A number and no Option: 0 for none is how a request is asked for, and no page has the tag 0.
     pub known: Tag,
 }
 

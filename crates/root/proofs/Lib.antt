@@ -1,3 +1,5 @@
+pub mod Growing
+pub mod Logged
 pub mod Places
 pub mod Example
 pub mod Views

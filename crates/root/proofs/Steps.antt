@@ -1,8 +1,6 @@
 -- What a publication brings. Assumes nothing.
-use Rattle.std.proofs.Common.{◌≡◌, ℕ, ◌+◌, ◌<◌, Bool, true, ◌&&◌, ltb, ◌⊎◌, List, [], ◌∷◌, ◌++◌, length, get_or, vec_items, vec_len, MatchBool, sym, refl, ap, ◌∙◌, subst, inl, inr, arith}
-use Rattle.std.proofs.lemmas.List.{length_push, length-append, get_or_push, get_or_append_left}
+use Rattle.std.proofs.Common.{◌≡◌, ℕ, ◌+◌, Bool, true, ◌&&◌, ltb, length, vec_items, vec_len, MatchBool, sym, refl, ap, ◌∙◌, subst, arith}
 use Rattle.names.specs.declared.name.Name.{Name}
-use Rattle.zone.specs.declared.rows.Row.{Row}
 use Rattle.zone.specs.declared.windows.Table.{Table}
 use Rattle.zone.specs.Intervals.{era}
 use Rattle.names.specs.Names.{is_name}
@@ -12,22 +10,11 @@ use Rattle.zone.specs.Tables.{is_era_table}
 use Rattle.cutting.proofs.Kept.{cut_whole}
 use Rattle.provider.specs.Meaning.{Meaning, last_edition}
 use Rattle.provider.specs.Publishing.{published, Next}
-use Rattle.root.specs.declared.entries.Entry.{Entry}
 use Rattle.root.specs.declared.roots.Root.{Root}
-use Rattle.root.specs.Logs.{no_entry, page, pages, tag_for, add}
+use Rattle.root.specs.Logs.{page, pages, tag_for, add}
 use Rattle.root.specs.Roots.{log_of, has_room, accepts, Added}
-use Rattle.root.specs.Grown.{pages_kept, pages_own, pages_others}
-use Rattle.root.proofs.Views.{log_count, Inside}
-
--- the rows of every entry still lie in the storage
-pub inside_added : (es : List Entry) (storage more : List Row) (e : Entry) (fs : List Entry) (wide : List Row) → Inside es storage → fs ≡ es ++ e ∷ [] → wide ≡ storage ++ more → e.start ≡ length storage → e.len ≡ length more → Inside fs wide
-inside_added es storage more e fs wide h p q start len k l =
-    let size : length wide ≡ length storage + length more = ap length q ∙ length-append storage more in
-    let places : length fs ≡ length es + 1 = ap length p ∙ length_push es e in
-    elim (cases k (length es) (omega arith)) [ inl x ↦ let old : get_or fs k no_entry ≡ get_or es k no_entry = ap (λ xs. get_or xs k no_entry) p ∙ get_or_append_left es (e ∷ []) no_entry k x in rw old (omega (arith, h k x)) | inr x ↦ let own : get_or fs k no_entry ≡ e = ap (λ xs. get_or xs k no_entry) p ∙ get_or_push es e no_entry k x in rw own (omega arith) ]
-  where
-    cases : (i m : ℕ) → i < m + 1 → (i < m) ⊎ (m ≡ i)
-    cases i m h = grind arith
+use Rattle.root.proofs.Growing.{pages_kept, pages_own, pages_others}
+use Rattle.root.proofs.Views.{log_count}
 
 -- what a root means
 abbrev pub meant : Root → Meaning

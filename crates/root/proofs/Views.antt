@@ -1,5 +1,5 @@
 -- A root's log as the code reads it. Assumes nothing.
-use Rattle.std.proofs.Common.{◌≡◌, ℕ, ◌+◌, ◌<◌, ◌≤◌, Bool, true, cond, List, [], ◌∷◌, ◌++◌, map, length, get_or, take, drop, Some, None, vec_items, vec_len, sym, ap, ◌∙◌, subst, arith}
+use Rattle.std.proofs.Common.{◌≡◌, ℕ, ◌+◌, ◌<◌, ◌≤◌, Bool, true, cond, List, [], ◌∷◌, ◌++◌, All, map, length, get_or, take, drop, Some, None, vec_items, vec_len, sym, ap, ◌∙◌, subst, arith}
 use Rattle.std.specs.Option.{option_map}
 use Rattle.std.proofs.lemmas.List.{length-map, length-drop, get_or-map, map_push, same_lists, take_all, take-append-le, drop-append-le, drop_at}
 use Rattle.names.specs.declared.name.Name.{Name}
@@ -16,21 +16,10 @@ use Rattle.root.specs.declared.roots.Root.{Root}
 use Rattle.root.specs.Logs.{Publication, publication, log, no_entry, latest, page, pages, tag_after, tag_for, add}
 use Rattle.root.specs.Order.{InOrder}
 use Rattle.root.specs.Roots.{log_of}
-use Rattle.root.specs.Latest.{pages_last, latest_stands}
+use Rattle.root.proofs.Logged.{pages_last, latest_stands}
 
 pub log_count : (s : Root) → vec_len s.entries ≡ length (log_of s)
 log_count s = s.entries.ok.0 ∙ sym (length-map (vec_items s.entries) (publication (vec_items s.rows)))
-
--- the publication of the entry at place i
-abbrev pub held : Root → ℕ → Publication
-held s i = publication (vec_items s.rows) (get_or (vec_items s.entries) i no_entry)
-
-module _ (s : Root) (n : Name) (es : List Entry) (e : es ≡ vec_items s.entries) where
-  pub none_held : ((storage : List Row) → latest n (log es storage) ≡ None) → latest n (log_of s) ≡ None
-  none_held h = subst (λ xs. latest n (log xs (vec_items s.rows)) ≡ None) e (h (vec_items s.rows))
-
-  pub some_held : (i : ℕ) → ((storage : List Row) → latest n (log es storage) ≡ Some (publication storage (get_or es i no_entry))) → latest n (log_of s) ≡ Some (held s i)
-  some_held i h = subst (λ xs. latest n (log xs (vec_items s.rows)) ≡ Some (publication (vec_items s.rows) (get_or xs i no_entry))) e (h (vec_items s.rows))
 
 -- what the latest edition answers
 pub answers_none : (s : Root) (q : Request) (e : ℕ) → e ≡ vec_len s.entries → latest q.name (log_of s) ≡ None → ◌≡◌ {A = Outcome Answer} (refused 5 (e ∷ [])) (edition_answer (vec_len s.entries) q (pages (log_of s) (vec_len s.entries) q.name))
@@ -59,7 +48,7 @@ tag_some s n rows stored p same tag number l r b t h =
 
 -- the rows of an entry lie in the storage
 abbrev pub Inside : List Entry → List Row → Type 0
-Inside es storage = (k : ℕ) → k < length es → (get_or es k no_entry).start + (get_or es k no_entry).len ≤ length storage
+Inside es storage = All (λ (e : Entry). e.start + e.len ≤ length storage) es
 
 publication_kept : (storage more : List Row) (e : Entry) → e.start + e.len ≤ length storage → publication (storage ++ more) e ≡ publication storage e
 publication_kept storage more e h =
@@ -77,7 +66,7 @@ log_kept : (es : List Entry) (storage more : List Row) → Inside es storage →
 log_kept es storage more inside =
     let wide = publication (storage ++ more) in
     let f = publication storage in
-    same_lists (map wide es) (map f es) (length-map es wide ∙ sym (length-map es f)) (λ k d h. let l : k < length es = simp length-map at h in get_or-map wide es k no_entry d l ∙ (publication_kept storage more (get_or es k no_entry) (inside k l) ∙ sym (get_or-map f es k no_entry d l)))
+    same_lists (map wide es) (map f es) (length-map es wide ∙ sym (length-map es f)) (λ k d h. let l : k < length es = simp length-map at h in get_or-map wide es k no_entry d l ∙ (publication_kept storage more (get_or es k no_entry) (inside k no_entry l) ∙ sym (get_or-map f es k no_entry d l)))
 
 -- the log after one entry and its rows more
 pub added_log : (s : Root) (n : Name) (rows : List Row) (es : List Entry) (storage : List Row) (e : Entry) → es ≡ vec_items s.entries ++ e ∷ [] → storage ≡ vec_items s.rows ++ rows → e.name ≡ n → e.start ≡ length (vec_items s.rows) → e.len ≡ length rows → e.tag ≡ tag_for (log_of s) n rows → log es storage ≡ add (log_of s) n rows

@@ -1,16 +1,15 @@
--- The latest publication of a name, and the page of an edition. Assumes nothing.
+-- The latest publication of a name, and the page of an edition, as far as the proof of a law needs it, which names no lemma of proofs/. Assumes nothing.
 use Rattle.std.specs.Prelude.{◌≡◌, ℕ, zero, suc, ◌<◌, ◌≤◌, Bool, true, false, ◌&&◌, ◌⊎◌, List, length, take, Some, None, Option, ◌≢◌, nat_le, refl}
 use Rattle.std.proofs.Common.{sym, ap, subst, ◌∙◌, inl, inr, arith, add-one}
 use Rattle.std.specs.Option.{option_map}
 use Rattle.std.specs.Str.{bytes_eq}
 use Rattle.std.proofs.lemmas.Slice.Eq.{bytes_eq-Decides}
-use Rattle.std.proofs.lemmas.List.{take_all}
 use Rattle.std.proofs.lemmas.List.Sums.{fold_more}
 use Rattle.std.proofs.lemmas.Bool.{cases_Bool}
 use Rattle.std.proofs.lemmas.Bool.Decides.{nat_tests}
 use Rattle.names.specs.declared.name.Name.{Name}
 use Rattle.provider.specs.Meaning.{Page}
-use Rattle.root.specs.Laws.{LastBefore, NoneBefore, PagesAreLatest}
+use Rattle.root.specs.Laws.{LastBefore, NoneBefore}
 use Rattle.root.specs.Logs.{Publication, at, nothing, newer, latest, page, pages}
 
 name_from : (a b : Name) → a.bytes ≡ b.bytes → a ≡ b
@@ -85,28 +84,6 @@ pages_in log zero n l = refl
 pages_in log (suc e) n l =
     let s : (nat_le 1 (suc e) && nat_le (suc e) (length log)) ≡ true = grind (arith, nat_tests) in
     rw s
-
--- the page of the last edition
-pub pages_last : (log : List Publication) (count : ℕ) (n : Name) → count ≡ length log → pages log count n ≡ option_map page (latest n log)
-pages_last log count n c = pages_in log count n (omega arith) ∙ ap (λ xs. option_map page (latest n xs)) (take_all count log (omega arith))
-
--- the latest publication of a name stands in the log
-pub latest_stands : (log : List Publication) (n : Name) (p : Publication) → latest n log ≡ Some p → (j : ℕ) × (j < length log) × (at log j ≡ p)
-latest_stands log n p q =
-    let f = latest_found log n (length log) p (omega arith) (ap (latest n) (take_all (length log) log (omega arith)) ∙ q) in
-    (f.0, f.1.earlier, f.2)
-
-pub pages_past : (log : List Publication) (e : ℕ) (n : Name) → length log < e → pages log e n ≡ None
-pages_past log e n l =
-    let s : (nat_le 1 e && nat_le e (length log)) ≡ false = grind (arith, nat_tests) in
-    rw s
-
-pub pages_are_latest : PagesAreLatest
-pages_are_latest = record {
-  some = λ log n e j l b. pages_in log e n l ∙ ap (option_map page) (latest_last log n j e l b);
-  none = λ log n e l b. pages_in log e n l ∙ ap (option_map page) (latest_none log n e l b);
-  past = λ log n e l. pages_past log e n l;
-}
 
 -- where a page comes from
 pub record From (log : List Publication) (e : ℕ) (n : Name) (p : Page) : Type 0 where

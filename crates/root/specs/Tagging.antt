@@ -1,5 +1,5 @@
--- What the tags of a log in order come to. Assumes nothing.
-use Rattle.std.specs.Prelude.{◌≡◌, ℕ, zero, suc, ◌+◌, ◌<◌, ◌≤◌, cond, ◌⊎◌, List, length, take, Some, None, Option, ◌≢◌}
+-- What the tags of a log in order come to, as far as the proof of a law needs it, which names no lemma of proofs/. Assumes nothing.
+use Rattle.std.specs.Prelude.{◌≡◌, ℕ, zero, suc, ◌+◌, ◌<◌, ◌≤◌, cond, ◌⊎◌, List, length, take, Some, None, Option}
 use Rattle.std.proofs.Math.Path.{refl, sym, ap}
 use Rattle.std.proofs.Common.{◌∙◌}
 use Rattle.std.proofs.Math.Logic.{inl, inr}
@@ -7,11 +7,11 @@ use native.Mathlib.Omega.{arith}
 use Rattle.std.proofs.lemmas.List.{length-take-le}
 use Rattle.std.proofs.lemmas.Bool.{cases_Bool}
 use Rattle.zone.specs.Comparing.{same_rows}
-use Rattle.zone.proofs.Compared.{decides_rows, rows_agree, rows_differ}
-use Rattle.root.specs.Laws.{LastBefore, NoneBefore, TagsAreFirstNumbers}
+use Rattle.zone.proofs.Compared.{decides_rows, rows_agree}
+use Rattle.root.specs.Laws.{LastBefore}
 use Rattle.root.specs.Logs.{Publication, at, latest, tag_after}
 use Rattle.root.specs.Order.{InOrder}
-use Rattle.root.specs.Latest.{latest_last, latest_none, latest_found}
+use Rattle.root.specs.Latest.{latest_last, latest_found}
 
 cases_order : (a b : ℕ) → a ≤ b → (a < b) ⊎ (a ≡ b)
 cases_order a b x = grind arith
@@ -20,16 +20,9 @@ either_way : (a b : ℕ) → (a ≤ b) ⊎ (b ≤ a)
 either_way a b = grind arith
 
 module _ (log : List Publication) (order : InOrder log) where
-  tag_is : (k : ℕ) → k < length log → (o : Option Publication) → latest (at log k).name (take k log) ≡ o → (at log k).tag ≡ tag_after (k + 1) (at log k).rows o
+  pub tag_is : (k : ℕ) → k < length log → (o : Option Publication) → latest (at log k).name (take k log) ≡ o → (at log k).tag ≡ tag_after (k + 1) (at log k).rows o
   tag_is k l o q =
       order.tags k l ∙ (ap (λ x. tag_after (x + 1) (at log k).rows (latest (at log k).name (take k log))) (length-take-le k log (omega arith)) ∙ ap (tag_after (k + 1) (at log k).rows) q)
-
-  pub tag_first : (k : ℕ) → k < length log → NoneBefore log (at log k).name k → (at log k).tag ≡ k + 1
-  tag_first k l b = tag_is k l None (latest_none log (at log k).name k (omega arith) b)
-
-  pub tag_changed : (k j : ℕ) → k < length log → LastBefore log (at log k).name k j → ((at log j).rows ≢ (at log k).rows) → (at log k).tag ≡ k + 1
-  tag_changed k j l b n =
-      tag_is k l (Some (at log j)) (latest_last log (at log k).name j k (omega arith) b) ∙ ap (λ x. cond x (at log j).tag (k + 1)) (rows_differ (at log j).rows (at log k).rows n)
 
   pub tag_same : (k j : ℕ) → k < length log → LastBefore log (at log k).name k j → (at log j).rows ≡ (at log k).rows → (at log k).tag ≡ (at log j).tag
   tag_same k j l b q =
@@ -84,12 +77,3 @@ module _ (log : List Publication) (order : InOrder log) where
   pub tag_one_table : (k j : ℕ) → k < length log → j < length log → (at log k).name ≡ (at log j).name → (at log k).tag ≡ (at log j).tag → (at log k).rows ≡ (at log j).rows
   unfolding One
   tag_one_table k j l i n t = elim (either_way j k) [ inl y ↦ one_below (suc k) k j y (omega arith) l n t | inr y ↦ sym (one_below (suc j) j k y (omega arith) i (sym n) (sym t)) ]
-
-pub tags_are_first_numbers : TagsAreFirstNumbers
-tags_are_first_numbers = record {
-  first = λ log k o l b. tag_first log o k l b;
-  changed = λ log k j o l b n. tag_changed log o k j l b n;
-  same = λ log k j o l b q. tag_same log o k j l b q;
-  within = λ log k o l. tag_within log o k l;
-  one_table = λ log k j o l i n t. tag_one_table log o k j l i n t;
-}

@@ -1,11 +1,11 @@
 // Publications put into a root's log.
-ghost use Rattle.std.specs.Prelude.{◌≡◌, ◌+◌, ◌<◌, ◌≤◌, ◌&&◌, [], ◌∷◌, ◌++◌, length, if◌then◌else◌, vec_len, vec_capacity, nat_lt};
+ghost use Rattle.std.specs.Prelude.{◌≡◌, ◌+◌, ◌<◌, ◌≤◌, ◌&&◌, [], ◌∷◌, ◌++◌, length, vec_len, vec_capacity, nat_lt};
 ghost use Rattle.provider.specs.Meaning.{last_edition};
 ghost use Rattle.root.specs.Logs.{tag_for};
 ghost use Rattle.root.specs.Roots.{Added, has_room, log_of};
 
 use super::entries::Entry;
-use super::looking::latest_place;
+use super::looking::latest_of;
 use super::roots::Root;
 use names::name::Name;
 use provider::requests::{Edition, Tag};
@@ -16,7 +16,7 @@ use zone::windows::Table;
 /// The highest number of an edition.
 pub const LAST_EDITION: usize = 65_535;
 
-// Puts the rows after those that are stored.
+// Puts the rows after those that are stored. A `for`, and no `extend_from_slice`, which does not promise that the storage stays as large.
 fn store(rows: &[Row], storage: &mut Vec<Row>)
     requires { vec_len storage.old + length rows.now ≤ vec_capacity storage.old }
     ensures items { storage.new.items ≡ storage.old.items ++ rows.now }
@@ -25,23 +25,6 @@ fn store(rows: &[Row], storage: &mut Vec<Row>)
     for row in rows {
         storage.push_reserved(*row);
     }
-}
-
-// Puts the entry after the others.
-fn keep(entry: Entry, entries: &mut Vec<Entry>)
-    requires { vec_len entries.old < vec_capacity entries.old }
-    ensures items { entries.new.items ≡ entries.old.items ++ entry ∷ [] }
-    ensures len { vec_len entries.new ≡ vec_len entries.old + 1 }
-    ensures capacity { vec_capacity entries.new ≡ vec_capacity entries.old }
-{
-    entries.push_reserved(entry);
-}
-
-// The tag before where the rows are the same, else the publication's number.
-fn tag_of(same: bool, before: Tag, number: Tag) -> Tag
-    ensures { result ≡ (if same then before else number) }
-{
-    if same { before } else { number }
 }
 
 impl Root {
@@ -60,13 +43,10 @@ impl Root {
         requires { vec_len self.now.entries < last_edition }
         ensures { result ≡ tag_for (log_of self.now) name.now rows.now }
     {
-        let number = self.entries.len() as u16 + 1;
-        match latest_place(self.entries.as_slice(), name) {
-            None => number,
-            Some(i) => {
-                let same = same_rows(self.rows_of(i), rows);
-                tag_of(same, self.entries[i].tag, number)
-            }
+        let number = self.count() + 1;
+        match latest_of(&self.entries, name) {
+            Some(entry) if same_rows(self.rows_of(entry), rows) => entry.tag,
+            _ => number,
         }
     }
 
@@ -94,7 +74,7 @@ impl Root {
         let rows = table.rows.as_slice();
         let entry = self.next_entry(name, rows);
         store(rows, &mut self.rows);
-        keep(entry, &mut self.entries);
-        self.entries.len() as u16
+        self.entries.push_reserved(entry);
+        self.count()
     }
 }

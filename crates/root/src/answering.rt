@@ -6,10 +6,10 @@ ghost use Rattle.root.specs.Logs.{pages};
 ghost use Rattle.root.specs.Order.{InOrder};
 ghost use Rattle.root.specs.Roots.{log_of};
 
-use super::looking::latest_place;
+use super::looking::latest_of;
 use super::roots::Root;
 use provider::answers::answer_rows;
-use provider::requests::{Reply, Request};
+use provider::requests::{Reply, Request, Version};
 use zone::intervals::ERA;
 use zone::refusals::Refusal;
 use zone::windows::Window;
@@ -20,13 +20,12 @@ impl Root {
         ensures told { InOrder (log_of self.now) → lies_within request.interval era ≡ true → judged result place.new ≡ edition_answer (vec_len self.now.entries) request (pages (log_of self.now) (vec_len self.now.entries) request.name) }
         ensures leaves { Leaves result request.interval place.old place.new }
     {
-        let edition = self.entries.len() as u16;
-        match latest_place(self.entries.as_slice(), &request.name) {
-            None => Err(Refusal::NoPage { edition }),
-            Some(i) => {
-                let tag = self.entries[i].tag;
-                answer_rows(ERA, self.rows_of(i), edition, tag, request, place)
-            }
-        }
+        let edition = self.count();
+        let entry = latest_of(&self.entries, &request.name).ok_or(Refusal::NoPage { edition })?;
+        let version = Version {
+            edition,
+            tag: entry.tag,
+        };
+        answer_rows(ERA, self.rows_of(entry), version, request, place)
     }
 }

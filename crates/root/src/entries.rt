@@ -2,7 +2,7 @@
 use names::name::Name;
 use provider::requests::Tag;
 
-/// An accepted publication: its name, where its rows begin in the storage of rows and how many there are, and its tag.
+/// An accepted publication: its name, where its rows begin in the storage of rows and how many there are, and its tag. It has no list of rows of its own, since all memory is reserved when the root is made.
 #[derive(Clone, Copy)]
 pub struct Entry {
     pub name: Name,

@@ -1,7 +1,7 @@
 // The root.
-ghost use Rattle.std.specs.Prelude.{ℕ, ◌+◌, ◌<◌, ◌≤◌, length, vec_len, vec_capacity, slice_index_or};
+ghost use Rattle.std.specs.Prelude.{◌+◌, ◌≤◌, length, All, vec_len, vec_capacity};
 ghost use Rattle.provider.specs.Meaning.{last_edition};
-ghost use Rattle.root.specs.Logs.{no_entry};
+ghost use Rattle.root.specs.declared.entries.Entry.{Entry};
 
 use super::entries::{Entry, Limits};
 use zone::rows::Row;
@@ -15,5 +15,5 @@ pub struct Root {
     ghost few: { vec_len entries ≤ last_edition },
     ghost reserved: { limits.entries ≤ vec_capacity entries },
     ghost kept: { limits.rows ≤ vec_capacity rows },
-    ghost inside: { (k : ℕ) → k < length entries.items → (slice_index_or entries.items k no_entry).start + (slice_index_or entries.items k no_entry).len ≤ length rows.items },
+    ghost inside: { All (λ (entry : Entry). entry.start + entry.len ≤ length rows.items) entries.items },
 }

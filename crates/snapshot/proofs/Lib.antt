@@ -1,1 +1,4 @@
+pub mod Fitting
+pub mod Rising
+pub mod Searching
 pub mod Standing

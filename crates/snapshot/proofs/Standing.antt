@@ -1,9 +1,10 @@
 -- The laws of good snapshots. Assumes nothing.
-use Rattle.std.proofs.Common.{◌≡◌, ℕ, zero, suc, ◌+◌, ◌<◌, ◌≤◌, Bool, true, false, cond, ◌&&◌, leb, List, [], ◌∷◌, length, get_or, Some, None, Decides, sym, refl, ap, ◌∙◌, subst, add-one, arith}
+use Rattle.std.proofs.Common.{◌≡◌, ℕ, zero, suc, ◌<◌, ◌≤◌, Bool, true, false, cond, ◌&&◌, leb, List, [], ◌∷◌, length, get_or, Some, None, Decides, sym, refl, ap, ◌∙◌, inl, inr, arith}
 use Rattle.std.specs.List.{AllByRecursion as All}
+use Rattle.std.specs.Str.{bytes_eq}
 use Rattle.std.proofs.ByRecursion.{all_from_every, every_from_all, Decides-by_and}
 use Rattle.std.proofs.lemmas.Slice.Eq.{bytes_eq-Decides}
-use Rattle.std.proofs.lemmas.Bool.{and_parts, and_from}
+use Rattle.std.proofs.lemmas.Bool.{and_parts, cases_Bool}
 use Rattle.std.proofs.lemmas.Bool.Decides.{Decides-like, Decides-and}
 use Rattle.names.specs.declared.name.Name.{Name}
 use Rattle.zone.specs.declared.rows.Interval.{Interval}
@@ -14,33 +15,8 @@ use Rattle.names.proofs.Ordered.{before_never, before_chain}
 use Rattle.zone.proofs.Testing.{decides_interval, decides_leb}
 use Rattle.snapshot.specs.declared.zones.Zone.{Zone}
 use Rattle.snapshot.specs.Laws.{Good, SnapshotsStand}
+use Rattle.snapshot.proofs.Rising.{Ahead, Rise, rise_from, rise_to}
 use Rattle.snapshot.specs.Zones.{fits, all_fit, before_next, rising, is_good, most_zones, page, page_of}
-use Rattle.snapshot.specs.Found.{bytes_no}
-
-abbrev Ahead : Zone → Zone → Type 0
-Ahead a b = before a.name.bytes b.name.bytes ≡ true
-
--- names that rise, by places
-abbrev Rise : List Zone → Type 0
-Rise zs = (k : ℕ) (d : Zone) → k + 1 < length zs → Ahead (get_or zs k d) (get_or zs (k + 1) d)
-
-next_is : (z d : Zone) (zs : List Zone) (k : ℕ) → get_or (z ∷ zs) (k + 1) d ≡ get_or zs k d
-next_is z d zs k = ap (λ x. get_or (z ∷ zs) x d) (add-one k)
-
-rise_from : (zs : List Zone) → rising zs ≡ true → Rise zs
-rise_from [] h k d l = absurd (omega arith)
-rise_from (z ∷ []) h k d l = absurd (omega arith)
-rise_from (z ∷ y ∷ ys) h zero d l = (and_parts (before z.name.bytes y.name.bytes) (rising (y ∷ ys)) h).0
-rise_from (z ∷ y ∷ ys) h (suc k) d l =
-    let r = rise_from (y ∷ ys) (and_parts (before z.name.bytes y.name.bytes) (rising (y ∷ ys)) h).1 k d (omega arith) in
-    let e : get_or (z ∷ y ∷ ys) (suc k + 1) d ≡ get_or (y ∷ ys) (k + 1) d = next_is z d (y ∷ ys) (suc k) ∙ ap (λ x. get_or (y ∷ ys) x d) (sym (add-one k)) in
-    subst (λ (x : Zone). Ahead (get_or (y ∷ ys) k d) x) (sym e) r
-
-rise_to : (zs : List Zone) → Rise zs → rising zs ≡ true
-rise_to [] h = refl
-rise_to (z ∷ []) h = refl
-rise_to (z ∷ y ∷ ys) h =
-    and_from (before z.name.bytes y.name.bytes) (rising (y ∷ ys)) (h 0 z (omega arith)) (rise_to (y ∷ ys) (λ k d l. subst (λ (x : Zone). Ahead x (get_or (y ∷ ys) (k + 1) d)) (next_is z d (y ∷ ys) k) (subst (λ (x : Zone). Ahead (get_or (z ∷ y ∷ ys) (k + 1) d) x) (next_is z d (y ∷ ys) (k + 1)) (h (k + 1) d (omega arith)))))
 
 -- the facts of one zone
 abbrev Fit : ℕ → Interval → Zone → Type 0
@@ -80,6 +56,9 @@ good_from e i zs w =
 good_to : (e : ℕ) (i : Interval) (zs : List Zone) → Good e i zs → Whole e i zs
 good_to e i zs g = (g.some, (g.in_era, (g.few, (all_from_every (Fit e i) zs (λ k d m l. (g.names k d l, (g.tags k d l, g.windows k d l))), g.order))))
 
+bytes_no : (a b : List ℕ) → (a ≡ b → ⊥) → bytes_eq a b ≡ false
+bytes_no a b n = elim (cases_Bool (bytes_eq a b)) [ inl y ↦ absurd (n ((bytes_eq-Decides a b).0 y)) | inr f ↦ f ]
+
 -- the first of names that rise comes before all others
 ahead_all : (z : Zone) (zs : List Zone) → rising (z ∷ zs) ≡ true → (k : ℕ) (d : Zone) → k < length zs → Ahead z (get_or zs k d)
 ahead_all z [] h k d l = absurd (omega arith)
@@ -103,7 +82,7 @@ held_at (z ∷ zs) h (suc k) d l =
     let no = bytes_no z.name.bytes n.bytes (apart z.name.bytes n.bytes (ahead_all z zs h k d (omega arith))) in
     ap (λ b. cond b (Some (page z)) (page_of n zs)) no ∙ held_at zs (and_parts (before_next z zs) (rising zs) h).1 k d (omega arith)
 
-name_from : (a b : Name) → a.bytes ≡ b.bytes → a ≡ b
+pub name_from : (a b : Name) → a.bytes ≡ b.bytes → a ≡ b
 name_from a b q = let named : List ℕ → Name = λ bytes. record { bytes = bytes } in ap named q
 
 none_of : (zs : List Zone) (n : Name) → ((k : ℕ) (d : Zone) → k < length zs → (get_or zs k d).name ≡ n → ⊥) → page_of n zs ≡ None

@@ -1,23 +1,46 @@
--- What a snapshot means keeps what a provider's meaning must keep. Assumes nothing.
-use Rattle.std.specs.Prelude.{◌≡◌, ℕ, ◌≤◌, Bool, true, false, cond, ◌&&◌, List, [], length, Some, None, vec_items, Option, ◌==◌, nat_eq, nat_le, refl}
-use Rattle.std.proofs.Common.{sym, ap, subst, ◌∙◌, inl, inr, arith, eq-eqb}
+-- What a snapshot means keeps what a provider's meaning must keep. The lemmas stand here and not in proofs/, since the proof of a law names none of proofs/. Assumes nothing.
+use Rattle.std.specs.Prelude.{◌≡◌, ℕ, ◌≤◌, Bool, true, cond, ◌&&◌, List, [], ◌∷◌, length, Some, None, vec_items, Option, if◌then◌else◌, ◌==◌, nat_le, refl}
+use Rattle.std.proofs.Common.{ap, subst, ◌∙◌, sym, inl, inr, arith}
+use Rattle.std.specs.Str.{bytes_eq}
 use Rattle.std.proofs.lemmas.Bool.{and_parts, cases_Bool, eqb-true, leb-true}
-use Rattle.std.proofs.lemmas.Bool.Decides.{nat_tests}
 use Rattle.names.specs.declared.name.Name.{Name}
+use Rattle.names.specs.Names.{is_name}
 use Rattle.zone.specs.declared.rows.Interval.{Interval}
 use Rattle.zone.specs.declared.windows.Window.{Window}
 use Rattle.zone.specs.Intervals.{era, same_interval, within}
-use Rattle.names.specs.Names.{is_name}
-use Rattle.zone.specs.Refusals.{refused}
 use Rattle.zone.specs.Rows.{Covers, table_rows}
 use Rattle.zone.proofs.Testing.{decides_interval}
-use Rattle.provider.specs.declared.requests.Request.{Request}
-use Rattle.provider.specs.Fetching.{inside_answer, page_answer, edition_answer, turn_answer}
-use Rattle.provider.specs.Meaning.{Page, Meaning, Paged, Sound, last_edition}
+use Rattle.provider.specs.Meaning.{Page, Meaning, Paged, Sound}
+use Rattle.snapshot.specs.declared.snapshots.Contents.{Contents}
 use Rattle.snapshot.specs.declared.zones.Zone.{Zone}
-use Rattle.snapshot.specs.Zones.{fits, page, page_of}
-use Rattle.snapshot.specs.Fitting.{Kept}
-use Rattle.snapshot.specs.Found.{page_from}
+use Rattle.snapshot.specs.Snapshots.{span_held, count_held, pages_held}
+use Rattle.snapshot.specs.Zones.{fits, all_fit, is_good, most_zones, page, page_of, rising}
+
+-- what a good snapshot keeps
+pub record Kept (edition : ℕ) (span : Interval) (zones : List Zone) : Type 0 where
+  pub some : 1 ≤ edition
+  pub in_era : within span era ≡ true
+  pub fit : all_fit edition span zones ≡ true
+
+pub good_from : (edition : ℕ) (span : Interval) (zones : List Zone) → is_good edition span zones ≡ true → Kept edition span zones
+good_from edition span zones h =
+    let few = nat_le 1 (length zones) && nat_le (length zones) most_zones in
+    let rest = all_fit edition span zones && rising zones in
+    let a = and_parts (nat_le 1 edition) (within span era && (few && rest)) h in
+    let b = and_parts (within span era) (few && rest) a.1 in
+    let c = and_parts few rest b.1 in
+    let d = and_parts (all_fit edition span zones) (rising zones) c.1 in
+    record { some = leb-true 1 edition a.0; in_era = b.0; fit = d.0 }
+
+-- a page that was found is that of a zone that fits
+pub page_from : (edition : ℕ) (span : Interval) (n : Name) (zones : List Zone) (p : Page) → all_fit edition span zones ≡ true → page_of n zones ≡ Some p → (z : Zone) × (fits edition span z ≡ true) × (page z ≡ p)
+page_from edition span n [] p h q = let w : ◌≡◌ {A = ℕ} 0 1 = cc in absurd (omega arith)
+page_from edition span n (z ∷ zs) p h q =
+    let a = and_parts (fits edition span z) (all_fit edition span zs) h in
+    elim (cases_Bool (bytes_eq z.name.bytes n.bytes)) [ inl y ↦ (z, a.0, here y) | inr f ↦ page_from edition span n zs p a.1 (ap (λ b. cond b (Some (page z)) (page_of n zs)) (sym f) ∙ q) ]
+  where
+    here : bytes_eq z.name.bytes n.bytes ≡ true → page z ≡ p
+    here y = let s : Some (page z) ≡ Some p = ap (λ b. cond b (Some (page z)) (page_of n zs)) (sym y) ∙ q in cc
 
 -- the facts of a zone that fits
 pub record Fits (edition : ℕ) (span : Interval) (z : Zone) : Type 0 where
@@ -50,53 +73,32 @@ paged edition span e p z s q h r =
       few = subst (λ x. length x ≤ table_rows) rows (omega (arith, z.window.few));
     }
 
--- the pages of a snapshot stand at its edition
-pub at_edition : (good : Bool) (edition : ℕ) (zones : List Zone) (e : ℕ) (n : Name) (p : Page) → cond (good && e == edition) (page_of n zones) None ≡ Some p → (good ≡ true) × (e ≡ edition) × (page_of n zones ≡ Some p)
-at_edition good edition zones e n p h = elim (cases_Bool (good && e == edition)) [ inl y ↦ yes y h | inr f ↦ no f h ]
+-- the meaning of what is held
+abbrev pub meant : Option Contents → Meaning
+meant o = record { span = span_held o; count = count_held o; pages = pages_held o; turn = λ n i. count_held o }
+
+-- a page of it stands at its edition
+page_at : (c : Contents) (e : ℕ) (n : Name) (p : Page) → pages_held (Some c) e n ≡ Some p → (e ≡ c.edition) × (page_of n c.zones.items ≡ Some p)
+page_at c e n p h = elim (cases_Bool (e == c.edition)) [ inl y ↦ (eqb-true e c.edition y, ap (λ (b : Bool). (if b then page_of n c.zones.items else None)) (sym y) ∙ h) | inr f ↦ none (ap (λ (b : Bool). (if b then page_of n c.zones.items else None)) (sym f) ∙ h) ]
   where
-    yes : (good && e == edition) ≡ true → cond (good && e == edition) (page_of n zones) None ≡ Some p → (good ≡ true) × (e ≡ edition) × (page_of n zones ≡ Some p)
-    yes y h = let a = and_parts good (e == edition) y in (a.0, eqb-true e edition a.1, ap (λ b. cond b (page_of n zones) None) (sym y) ∙ h)
+    none : {X : Type 0} → None ≡ Some p → X
+    none h = let z : ◌≡◌ {A = ℕ} 0 1 = cc in absurd (omega arith)
 
-    no : (good && e == edition) ≡ false → cond (good && e == edition) (page_of n zones) None ≡ Some p → (good ≡ true) × (e ≡ edition) × (page_of n zones ≡ Some p)
-    no f h = let w : None ≡ Some p = ap (λ b. cond b (page_of n zones) None) (sym f) ∙ h in let z : ◌≡◌ {A = ℕ} 0 1 = cc in absurd (omega arith)
-
-abbrev pub meant : Bool → ℕ → Interval → List Zone → Meaning
-meant good edition span zones = record { span = cond good span era; count = cond good edition 0; pages = λ e n. cond (good && e == edition) (page_of n zones) None; turn = λ n i. cond good edition 0 }
-
-one_page : (good : Bool) (edition : ℕ) (zones : List Zone) (e f : ℕ) (n : Name) (p q : Page) → cond (good && e == edition) (page_of n zones) None ≡ Some p → cond (good && f == edition) (page_of n zones) None ≡ Some q → p.rows ≡ q.rows
-one_page good edition zones e f n p q a b =
-    let x = (at_edition good edition zones e n p a).2 in
-    let y = (at_edition good edition zones f n q b).2 in
-    let same : p ≡ q = cc in
-    ap (λ (x : Page). x.rows) same
-
-pub sound_meant : (good : Bool) (edition : ℕ) (span : Interval) (zones : List Zone) → edition ≤ last_edition → (good ≡ true → Kept edition span zones) → Sound (meant good edition span zones)
-sound_meant true edition span zones l g =
+pub sound_meant : (o : Option Contents) → Sound (meant o)
+sound_meant (Some c) =
+    let g = good_from c.edition c.span c.zones.items c.good in
     record {
-      in_era = (g refl).in_era;
-      few = l;
+      in_era = g.in_era;
+      few = c.few;
       turns = λ n i. omega arith;
-      paged = λ e n p q. let a = at_edition true edition zones e n p q in let f = page_from edition span n zones p (g refl).fit a.2 in paged edition span e p f.0 (g refl).some a.1 f.1 f.2;
-      one_table = λ e f n p q a b t. one_page true edition zones e f n p q a b;
+      paged = λ e n p q. let a = page_at c e n p q in let f = page_from c.edition c.span n c.zones.items p g.fit a.1 in paged c.edition c.span e p f.0 g.some a.0 f.1 f.2;
+      one_table = λ e f n p q a b t. let x = (page_at c e n p a).1 in let y = (page_at c f n q b).1 in let same : p ≡ q = cc in ap (λ (x : Page). x.rows) same;
     }
-sound_meant false edition span zones l g =
+sound_meant None =
     record {
       in_era = refl;
       few = omega arith;
       turns = λ n i. omega arith;
       paged = λ e n p q. let z : ◌≡◌ {A = ℕ} 0 1 = cc in absurd (omega arith);
-      one_table = λ e f n p q a b t. one_page false edition zones e f n p q a b;
+      one_table = λ e f n p q a b t. let z : ◌≡◌ {A = ℕ} 0 1 = cc in absurd (omega arith);
     }
-
--- what a good snapshot answers from a window over its span
-pub answers_some : (span : Interval) (q : Request) (e : ℕ) (z : Zone) (o : Option Page) → o ≡ Some (page z) → z.window.interval ≡ span → within q.interval span ≡ true → inside_answer z.window.interval e q (page z) ≡ edition_answer e q o
-answers_some span q e z o h i w =
-    ap (λ x. inside_answer x e q (page z)) i ∙ (ap (λ b. cond b (page_answer e q (page z)) (refused 3 [])) w ∙ sym (ap (edition_answer e q) h))
-
--- what the turn of a good snapshot answers
-pub turn_good : (q : Request) (good : Bool) (edition : ℕ) (zones : List Zone) → good ≡ true → 1 ≤ edition → edition_answer edition q (page_of q.name zones) ≡ turn_answer (cond good edition 0) q (cond (good && cond good edition 0 == edition) (page_of q.name zones) None)
-turn_good q true edition zones g s =
-    let z : nat_eq edition 0 ≡ false = grind (arith, nat_tests) in
-    let r : nat_eq edition edition ≡ true = eq-eqb edition edition refl in
-    sym (ap (λ b. cond b (refused 4 []) (edition_answer edition q (cond (edition == edition) (page_of q.name zones) None))) z ∙ ap (λ b. edition_answer edition q (cond b (page_of q.name zones) None)) r)
-turn_good q false edition zones g s = let z : ◌≡◌ {A = ℕ} 0 1 = cc in absurd (omega arith)

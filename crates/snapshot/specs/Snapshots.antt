@@ -1,28 +1,46 @@
 -- What a snapshot holds and means. Assumes nothing.
-use Rattle.std.specs.Prelude.{◌≡◌, ℕ, cond, ◌&&◌, List, None, vec_items, Option, ◌==◌}
+use Rattle.std.specs.Prelude.{◌≡◌, ℕ, true, false, List, Some, None, Option, if◌then◌else◌, ◌==◌, MatchOption}
 use Rattle.names.specs.declared.name.Name.{Name}
 use Rattle.zone.specs.declared.rows.Interval.{Interval}
 use Rattle.zone.specs.Intervals.{era}
 use Rattle.provider.specs.Meaning.{Page}
+use Rattle.snapshot.specs.declared.snapshots.Contents.{Contents}
 use Rattle.snapshot.specs.declared.snapshots.Snapshot.{Snapshot}
 use Rattle.snapshot.specs.declared.zones.Zone.{Zone}
 use Rattle.snapshot.specs.Zones.{is_good, page_of}
 
+-- what it is that is held: its span, else the era; its edition, else 0; and at its edition the pages of its zones
+abbrev pub span_held : Option Contents → Interval
+span_held None = era
+span_held (Some c) = c.span
+
+abbrev pub count_held : Option Contents → ℕ
+count_held None = 0
+count_held (Some c) = c.edition
+
+abbrev pub pages_held : Option Contents → ℕ → Name → Option Page
+pages_held None e n = None
+pages_held (Some c) e n = (if e == c.edition then page_of n c.zones.items else None)
+
 -- the span of a good snapshot is its own, else the era
 abbrev pub span_of : Snapshot → Interval
-span_of s = cond s.good s.span era
+span_of s = span_held s.contents
 
 -- the count and the turn of a good snapshot are its edition, else 0
 abbrev pub count_of : Snapshot → ℕ
-count_of s = cond s.good s.edition 0
+count_of s = count_held s.contents
 
 -- a good snapshot has the pages of its zones at its edition, and nothing else is there
 abbrev pub pages_of : Snapshot → ℕ → Name → Option Page
-pages_of s e n = cond (s.good && e == s.edition) (page_of n (vec_items s.zones)) None
+pages_of s = pages_held s.contents
 
--- a snapshot made of an edition e, a span i and the zones zs
-pub record Made (e : ℕ) (i : Interval) (zs : List Zone) (s : Snapshot) : Type 0 where
-  pub edition : s.edition ≡ e
-  pub span : s.span ≡ i
-  pub zones : vec_items s.zones ≡ zs
-  pub good : s.good ≡ is_good e i zs
+-- an edition e, a span i and the zones zs, which are good, are held
+pub record Holds (e : ℕ) (i : Interval) (zs : List Zone) (c : Contents) : Type 0 where
+  pub good : is_good e i zs ≡ true
+  pub edition : c.edition ≡ e
+  pub span : c.span ≡ i
+  pub zones : c.zones.items ≡ zs
+
+-- a snapshot made of them holds them exactly where they are good
+abbrev pub Made : ℕ → Interval → List Zone → Snapshot → Type 0
+Made e i zs s = MatchOption s.contents (is_good e i zs ≡ false) (Holds e i zs)

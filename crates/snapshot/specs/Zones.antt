@@ -1,5 +1,6 @@
 -- When zones make a good snapshot, and the page that they have of a name. Assumes nothing.
-use Rattle.std.specs.Prelude.{ℕ, Bool, true, cond, ◌&&◌, List, [], ◌∷◌, length, Some, None, vec_items, Option, nat_le}
+use Rattle.std.specs.Prelude.{ℕ, Bool, true, ◌&&◌, List, [], ◌∷◌, length, Some, None, Option, if◌then◌else◌, nat_le}
+use Rattle.std.specs.List.{list_all}
 use Rattle.std.specs.Str.{bytes_eq}
 use Rattle.names.specs.declared.name.Name.{Name}
 use Rattle.zone.specs.declared.rows.Interval.{Interval}
@@ -19,8 +20,7 @@ fits edition span z = is_name z.name.bytes && ((nat_le 1 z.tag && nat_le z.tag e
 
 -- all zones do
 abbrev pub all_fit : ℕ → Interval → List Zone → Bool
-all_fit edition span [] = true
-all_fit edition span (z ∷ zs) = fits edition span z && all_fit edition span zs
+all_fit edition span zones = list_all (fits edition span) zones
 
 -- the zone's name comes strictly before that of the next zone, if there is one
 abbrev pub before_next : Zone → List Zone → Bool
@@ -38,9 +38,9 @@ is_good edition span zones = nat_le 1 edition && (within span era && ((nat_le 1 
 
 -- the page that a zone gives
 abbrev pub page : Zone → Page
-page z = record { tag = z.tag; rows = vec_items z.window.rows }
+page z = record { tag = z.tag; rows = z.window.rows.items }
 
 -- the page of the zone with the name
 abbrev pub page_of : Name → List Zone → Option Page
 page_of n [] = None
-page_of n (z ∷ zs) = cond (bytes_eq z.name.bytes n.bytes) (Some (page z)) (page_of n zs)
+page_of n (z ∷ zs) = (if bytes_eq z.name.bytes n.bytes then Some (page z) else page_of n zs)

@@ -1,5 +1,5 @@
 // Whether zones make a good snapshot.
-ghost use Rattle.std.specs.Prelude.{◌≡◌, ◌&&◌, Decides, nat_le};
+ghost use Rattle.std.specs.Prelude.{◌≡◌, ◌&&◌, nat_le};
 ghost use Rattle.names.specs.Comparing.{before};
 ghost use Rattle.snapshot.specs.Zones.{all_fit, fits, is_good, rising};
 
@@ -11,20 +11,6 @@ use zone::rows::Interval;
 /// The most zones of a snapshot.
 pub const MOST_ZONES: usize = 64;
 
-// Whether the zone's window is exactly over the span.
-fn is_over(zone: &Zone, span: Interval) -> bool
-    ensures { Decides result ((zone.now.window.interval.start ≡ span.start) × (zone.now.window.interval.end ≡ span.end)) }
-{
-    zone.window.interval.is_same(span)
-}
-
-// Whether the name of the first zone comes strictly before that of the other.
-fn is_ahead(zone: &Zone, next: &Zone) -> bool
-    ensures { result ≡ before zone.now.name.bytes next.now.name.bytes }
-{
-    zone.name.is_before(&next.name)
-}
-
 // Whether the zone's tag is from 1 to the edition.
 fn is_tagged(zone: &Zone, edition: Edition) -> bool
     ensures { result ≡ (nat_le 1 zone.now.tag && nat_le zone.now.tag edition) }
@@ -33,40 +19,33 @@ fn is_tagged(zone: &Zone, edition: Edition) -> bool
 }
 
 // Whether the zone has a valid name, a tag from 1 to the edition, and a window exactly over the span.
+#[tactic(auto, using(crate::proofs::Fitting::same_int))]
 fn does_fit(zone: &Zone, edition: Edition, span: Interval) -> bool
     ensures { result ≡ fits edition span zone.now }
 {
-    if !zone.name.is_valid() {
-        return false;
-    }
-    if !is_tagged(zone, edition) {
-        return false;
-    }
-    is_over(zone, span)
+    zone.name.is_valid() && is_tagged(zone, edition) && zone.window.interval == span
 }
 
 // Whether all zones do.
 fn do_fit(zones: &[Zone], edition: Edition, span: Interval) -> bool
     ensures { result ≡ all_fit edition span zones.now }
 {
-    for zone in zones {
-        if !does_fit(zone, edition, span) {
-            return false;
-        }
-    }
-    true
+    zones.iter().all(|zone| does_fit(zone, edition, span))
+}
+
+// Whether the name of the first zone comes strictly before that of the other.
+#[tactic(auto, using(names::proofs::Ordered::before_told))]
+fn is_ahead(zone: &Zone, next: &Zone) -> bool
+    ensures { result ≡ before zone.now.name.bytes next.now.name.bytes }
+{
+    zone.name < next.name
 }
 
 // Whether the names rise strictly in byte order.
 fn do_rise(zones: &[Zone]) -> bool
     ensures { result ≡ rising zones.now }
 {
-    for i in 1..zones.len() {
-        if !is_ahead(&zones[i - 1], &zones[i]) {
-            return false;
-        }
-    }
-    true
+    zones.is_sorted_by(is_ahead)
 }
 
 // Whether these make a good snapshot.

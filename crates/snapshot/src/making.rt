@@ -2,7 +2,7 @@
 ghost use Rattle.snapshot.specs.Snapshots.{Made};
 
 use super::deciding::are_good;
-use super::snapshots::Snapshot;
+use super::snapshots::{Contents, Snapshot};
 use super::zones::Zone;
 use provider::requests::Edition;
 use zone::rows::Interval;
@@ -12,12 +12,15 @@ impl Snapshot {
     pub fn new(edition: Edition, span: Interval, zones: Vec<Zone>) -> Snapshot
         ensures { Made edition span zones.items result }
     {
-        let good = are_good(edition, span, zones.as_slice());
-        Snapshot {
-            edition,
-            span,
-            zones,
-            good,
-        }
+        let contents = if are_good(edition, span, &zones) {
+            Some(Contents {
+                edition,
+                span,
+                zones,
+            })
+        } else {
+            None
+        };
+        Snapshot { contents }
     }
 }

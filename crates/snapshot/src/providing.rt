@@ -1,14 +1,13 @@
 // The snapshot as a provider.
 ghost use Rattle.std.specs.Prelude.{◌≡◌};
-ghost use Rattle.std.proofs.Common.{sym, ◌∙◌};
 ghost use Rattle.snapshot.specs.Snapshots.{count_of, pages_of, span_of};
-ghost use Rattle.snapshot.specs.Fitting.{good_from};
 ghost use Rattle.snapshot.specs.Meant.{sound_meant};
 
 use super::snapshots::Snapshot;
 use provider::answers::check;
 use provider::providers::Provider;
 use provider::requests::{Reply, Request};
+use zone::intervals::ERA;
 use zone::refusals::Refusal;
 use zone::rows::Interval;
 use zone::windows::Window;
@@ -27,17 +26,18 @@ impl Provider for Snapshot {
 
     ghost after_fetch = { λ s q t. t ≡ s };
 
-    ghost sound = { λ s o. sound_meant s.good s.edition s.span s.zones.items s.few (λ g. good_from s.edition s.span s.zones.items (sym s.told ∙ g)) };
+    ghost sound = { λ s o. sound_meant s.contents };
 
     fn span(&self) -> Interval {
-        self.covered()
+        match &self.contents {
+            Some(contents) => contents.span,
+            None => ERA,
+        }
     }
 
     fn fetch(&mut self, request: Request, place: &mut Window) -> Result<Reply, Refusal> {
-        check(&request, self.covered())?;
-        if !self.good {
-            return Err(Refusal::Silent);
-        }
-        self.answer(request, place)
+        check(&request, self.span())?;
+        let contents = self.contents.as_ref().ok_or(Refusal::Silent)?;
+        contents.answer(request, place)
     }
 }

@@ -35,16 +35,6 @@ pub fn check_span<P: Provider>(below: &P, span: Interval) -> Result<(), Refusal>
     Ok(())
 }
 
-// The span of the truncation.
-fn kept_span<P: Provider>(below: &P, span: Interval) -> Interval
-    ensures { result ≡ span_kept span (P.Provider.span below.now) }
-{
-    match check_span(below, span) {
-        Ok(()) => span,
-        Err(_) => below.span(),
-    }
-}
-
 impl<P: Provider> Truncation<P> {
     /// The provider truncated to the span; where the span is refused, to its own.
     pub fn new(below: P, span: Interval) -> Truncation<P>
@@ -52,11 +42,14 @@ impl<P: Provider> Truncation<P> {
         ensures span { result.span ≡ span_kept span (P.Provider.span below) }
         ensures order { P.Provider.in_order below → Over P.Provider result.below result.span }
     {
-        let span = kept_span(&below, span);
+        let span = match check_span(&below, span) {
+            Ok(()) => span,
+            Err(_) => below.span(),
+        };
         Truncation { below, span }
     }
 
-    // The checks that every fetch begins with, over its own span.
+    // The checks that every fetch begins with. A function of its own, so that a contract tells over which span they are.
     fn check_request(&self, request: &Request) -> Result<(), Refusal>
         ensures { outcome result ≡ checked request.now self.now.span (answered tt) }
     {
@@ -87,8 +80,8 @@ impl<P: Provider> Provider for Truncation<P> {
     /// Fetches a page's cut into the lent window.
     fn fetch(&mut self, request: Request, place: &mut Window) -> Result<Reply, Refusal> {
         self.check_request(&request)?;
-        let reply = self.below.fetch(request, place)?;
-        Ok(reply)
+        // A refusal from below passes up by `?`, with the edition that it names.
+        Ok(self.below.fetch(request, place)?)
     }
 }
 
@@ -99,7 +92,6 @@ impl<P: Publishing> Publishing for Truncation<P> {
 
     /// Publishes a table over the era for the name, and answers the number of the new edition.
     fn publish(&mut self, name: Name, table: &Table) -> Result<Edition, Refusal> {
-        let edition = self.below.publish(name, table)?;
-        Ok(edition)
+        Ok(self.below.publish(name, table)?)
     }
 }

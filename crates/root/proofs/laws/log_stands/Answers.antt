@@ -1,5 +1,4 @@
-use Rattle.root.specs.Latest.{pages_are_latest}
-use Rattle.root.specs.Tagging.{tags_are_first_numbers}
+use Rattle.root.proofs.Logged.{pages_are_latest, tags_are_first_numbers}
 use Rattle.root.proofs.laws.log_stands.Goals as goal
 
 pub returns : goal.returns

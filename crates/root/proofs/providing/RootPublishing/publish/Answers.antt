@@ -3,13 +3,13 @@ use Rattle.zone.specs.Refusals.{answered}
 use Rattle.zone.proofs.Testing.{decides_era_table}
 use Rattle.provider.specs.Meaning.{last_edition}
 use Rattle.root.specs.Order.{InOrder}
-use Rattle.root.specs.Roots.{log_of, has_room, accepts, Added}
-use Rattle.root.specs.Grown.{in_order_add}
-use Rattle.root.proofs.Steps.{next_added, accepted, when_yes}
+use Rattle.root.specs.Roots.{log_of, has_room}
+use Rattle.root.proofs.Growing.{in_order_add}
+use Rattle.root.proofs.Steps.{next_added, accepted}
 use Rattle.root.proofs.providing.RootPublishing.publish.Goals as goal
 
-pub returns : goal.returns
-returns c =
+pub returns-clause-told : goal.returns-clause-told
+returns-clause-told c =
     let s = c.args.self.now in
     let t = c.args.table.now in
     let n = c.args.name in
@@ -18,14 +18,10 @@ returns c =
     let valid = sym c.if-not-is_valid.ensures in
     let table = sym c.if-not-is_over_era.ensures in
     let room : (has_room s (length rows) && ltb (vec_len s.entries) last_edition) ≡ true = ap (λ x. has_room s x && ltb (vec_len s.entries) last_edition) (sym size) ∙ sym c.if-not-takes.ensures in
-    let yes = accepted s n t valid table room in
     let added = c.add.ensures.added in
     let sound = ((decides_era_table t.interval rows).0 table).1 in
-    record {
-      after = when_yes (accepts s n t) (Added s n t c.add.new.self) (c.add.new.self ≡ s) yes.1 added;
-      told = λ o. record {
-        order = subst InOrder (sym added.log) (in_order_add (log_of s) n rows o valid sound);
-        told = ap answered c.add.ensures.number ∙ sym yes.0;
-        brings = next_added s c.add.new.self n t added sound;
-      };
+    λ o. record {
+      order = subst InOrder (sym added.log) (in_order_add (log_of s) n rows o valid sound);
+      told = ap answered c.add.ensures.number ∙ sym (accepted s n t valid table room).0;
+      brings = next_added s c.add.new.self n t added sound;
     }

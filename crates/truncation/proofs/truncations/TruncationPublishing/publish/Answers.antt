@@ -1,11 +1,7 @@
-use Rattle.std.proofs.Common.{refl}
-use Rattle.truncation.specs.Meanings.{truncated_published}
+use Rattle.truncation.proofs.Fetches.{truncated_published}
 use Rattle.truncation.proofs.truncations.TruncationPublishing.publish.Goals as goal
 
-pub returns : goal.returns
-returns g c =
+pub returns-clause-told : goal.returns-clause-told
+returns-clause-told g c =
     let s = c.args.self.now in
-    record {
-      after = (c.publish.ensures.after, refl);
-      told = λ o. truncated_published _ s.span (g.met.P.Provider.sound s.below o.0) o.1 (c.in_ok-edition.ensures.told o.0);
-    }
+    λ o. truncated_published _ s.span (g.met.P.Provider.sound s.below o.0) o.1 (c.in_ok-publish.ensures.told o.0)
