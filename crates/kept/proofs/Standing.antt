@@ -1,13 +1,12 @@
 -- What is kept stays one page a name. Assumes nothing.
-use Rattle.std.proofs.Common.{◌≡◌, ℕ, zero, suc, ◌<◌, max, Bool, true, false, cond, ltb, ◌⊎◌, List, [], ◌∷◌, length, get_or, set, replicate, Some, None, Ok, Err, Option, Result, sym, refl, ap, ◌∙◌, subst, inl, inr, arith}
+use Rattle.std.proofs.Common.{◌≡◌, ℕ, zero, suc, ◌<◌, max, Bool, true, false, cond, ltb, ◌⊎◌, List, [], ◌∷◌, length, get_or, set, replicate, Some, None, Ok, Err, Option, Result, position, sym, refl, ap, ◌∙◌, subst, inl, inr, arith}
 use native.Mathlib.Nat.{le-max_left}
-use Rattle.std.specs.Option.{option_map}
+use Rattle.std.specs.Option.{option_map, option_or}
 use Rattle.std.proofs.lemmas.List.{length-set, get_or-set_same, get_or-set_other}
-use Rattle.std.proofs.lemmas.Bool.{both_ways, cases_eq, leb-true}
+use Rattle.std.proofs.lemmas.List.Quantifiers.{position-Some}
+use Rattle.std.proofs.lemmas.Bool.{both_ways, cases_eq, false_from_ne_true, leb-true}
 use Rattle.names.specs.declared.name.Name.{Name}
 use Rattle.names.specs.Comparing.{same_name}
-use Rattle.names.specs.Finding.{first_place}
-use Rattle.names.proofs.Finding.{first_found, first_passes}
 use Rattle.names.proofs.Ordered.{same_name_is, same_name_self}
 use Rattle.zone.specs.declared.refusals.Refusal.{Refusal}
 use Rattle.zone.specs.declared.windows.Window.{Window}
@@ -16,71 +15,30 @@ use Rattle.provider.specs.declared.requests.Reply.TheVariants.{Unchanged, Fresh}
 use Rattle.provider.specs.declared.requests.Request.{Request}
 use Rattle.kept.specs.declared.steps.Step.{Step}
 use Rattle.kept.specs.declared.steps.Step.TheVariants.{PassOn, Serve, Renew, Take}
-use Rattle.kept.specs.Keeping.{Kept, from_edition, is_free, is_of, kept_at, kept_for, may_replace, none_kept, or_else, place_for, place_of, serving, with_page}
+use Rattle.kept.specs.Keeping.{Kept, from_edition, is_free, is_of, kept_at, kept_for, may_replace, none_kept, place_for, place_of, serving, with_page}
 use Rattle.kept.specs.Laws.{Apart, KeptWell, NoLower, PagesStand}
 use Rattle.kept.specs.Stepping.{is_older, kept_by, page_in, step}
-use Rattle.kept.proofs.Finding.{kept_named, serving_parts}
+use Rattle.kept.proofs.Finding.{found_at, free_is, kept_named, position_cons, serving_parts}
 
 -- two names of what is kept at one place are the same
 one_name : (x y : Name) (o : Option Kept) → is_of x o ≡ true → is_of y o ≡ true → x ≡ y
-one_name x y None h g = let z : ◌≡◌ {A = ℕ} 0 1 = cc in absurd (omega arith)
+one_name x y None h g = cc
 one_name x y (Some k) h g = sym (same_name_is k.name x h) ∙ same_name_is k.name y g
 
--- a free place is of no name
-not_free : (x : Name) (o : Option Kept) → is_free o ≡ true → is_of x o ≡ false
-not_free x None h = refl
-not_free x (Some k) h = let z : ◌≡◌ {A = ℕ} 0 1 = cc in absurd (omega arith)
-
--- the place that was found is one of the list, and none before it passes
-module _ (test : Option Kept → Bool) where
-  pub first_within : (ps : List (Option Kept)) (j : ℕ) → first_place test ps ≡ Some j → j < length ps
-  first_within [] j h = let z : ◌≡◌ {A = ℕ} 0 1 = cc in absurd (omega arith)
-  first_within (p ∷ ps) j h = by (test p) h (λ i f. first_within ps i f)
-    where
-      later : (o : Option ℕ) → first_place test ps ≡ o → option_map suc o ≡ Some j → ((i : ℕ) → first_place test ps ≡ Some i → i < length ps) → j < length (p ∷ ps)
-      later None f g ih = let z : ◌≡◌ {A = ℕ} 0 1 = cc in absurd (omega arith)
-      later (Some i) f g ih = let e : suc i ≡ j = cc in let l = ih i f in omega arith
-
-      by : (b : Bool) → cond b (Some 0) (option_map suc (first_place test ps)) ≡ Some j → ((i : ℕ) → first_place test ps ≡ Some i → i < length ps) → j < length (p ∷ ps)
-      by true g ih = let e : 0 ≡ j = cc in omega arith
-      by false g ih = later (first_place test ps) refl g ih
-
-  pub first_before : (ps : List (Option Kept)) (j : ℕ) → first_place test ps ≡ Some j → (i : ℕ) → i < j → test (get_or ps i None) ≡ false
-  first_before [] j h i l = let z : ◌≡◌ {A = ℕ} 0 1 = cc in absurd (omega arith)
-  first_before (p ∷ ps) j h i l = by (test p) refl h (λ a f. first_before ps a f)
-    where
-      here : (a b : ℕ) → a < suc b → test p ≡ false → ((c : ℕ) → c < b → test (get_or ps c None) ≡ false) → test (get_or (p ∷ ps) a None) ≡ false
-      here zero b m t ih = t
-      here (suc a) b m t ih = ih a (omega arith)
-
-      later : (o : Option ℕ) → first_place test ps ≡ o → test p ≡ false → option_map suc o ≡ Some j → ((a : ℕ) → first_place test ps ≡ Some a → (c : ℕ) → c < a → test (get_or ps c None) ≡ false) → test (get_or (p ∷ ps) i None) ≡ false
-      later None f t g ih = let z : ◌≡◌ {A = ℕ} 0 1 = cc in absurd (omega arith)
-      later (Some a) f t g ih = let e : suc a ≡ j = cc in here i a (omega arith) t (ih a f)
-
-      by : (b : Bool) → test p ≡ b → cond b (Some 0) (option_map suc (first_place test ps)) ≡ Some j → ((a : ℕ) → first_place test ps ≡ Some a → (c : ℕ) → c < a → test (get_or ps c None) ≡ false) → test (get_or (p ∷ ps) i None) ≡ false
-      by true t g ih = let e : 0 ≡ j = cc in absurd (omega arith)
-      by false t g ih = later (first_place test ps) refl t g ih
-
-  -- where none was found, none passes
-  pub none_passes : (ps : List (Option Kept)) → test None ≡ false → first_place test ps ≡ None → (i : ℕ) → test (get_or ps i None) ≡ false
-  none_passes [] n h i = n
-  none_passes (p ∷ ps) n h i = by (test p) refl h (λ f. none_passes ps n f)
-    where
-      here : (a : ℕ) → test p ≡ false → ((c : ℕ) → test (get_or ps c None) ≡ false) → test (get_or (p ∷ ps) a None) ≡ false
-      here zero t ih = t
-      here (suc a) t ih = ih a
-
-      later : (o : Option ℕ) → first_place test ps ≡ o → test p ≡ false → option_map suc o ≡ None → (first_place test ps ≡ None → (c : ℕ) → test (get_or ps c None) ≡ false) → test (get_or (p ∷ ps) i None) ≡ false
-      later None f t g ih = here i t (ih f)
-      later (Some a) f t g ih = let z : ◌≡◌ {A = ℕ} 0 1 = cc in absurd (omega arith)
-
-      by : (b : Bool) → test p ≡ b → cond b (Some 0) (option_map suc (first_place test ps)) ≡ None → (first_place test ps ≡ None → (c : ℕ) → test (get_or ps c None) ≡ false) → test (get_or (p ∷ ps) i None) ≡ false
-      by true t g ih = let z : ◌≡◌ {A = ℕ} 0 1 = cc in absurd (omega arith)
-      by false t g ih = later (first_place test ps) refl t g ih
+-- where none was found, none passes
+none_passes : (test : Option Kept → Bool) (ps : List (Option Kept)) → test None ≡ false → position test ps ≡ None → (i : ℕ) → test (get_or ps i None) ≡ false
+none_passes test [] n h i = n
+none_passes test (p ∷ ps) n h i = by (test p) (position test ps) refl refl (sym (position_cons test p ps) ∙ h) (none_passes test ps n) i
+  where
+    by : (b : Bool) (o : Option ℕ) → test p ≡ b → position test ps ≡ o → cond b (Some 0) (option_map suc o) ≡ None → (position test ps ≡ None → (i : ℕ) → test (get_or ps i None) ≡ false) → (i : ℕ) → test (get_or (p ∷ ps) i None) ≡ false
+    by true o t f g ih i = cc
+    by false (Some j) t f g ih i = cc
+    by false None t f g ih zero = t
+    by false None t f g ih (suc i) = ih f i
 
 -- what is kept of a name is at the first place, or further on
 kept_cons : (n : Name) (p : Option Kept) (ps : List (Option Kept)) → kept_for (p ∷ ps) n ≡ cond (is_of n p) p (kept_for ps n)
-kept_cons n p ps = by (is_of n p) (place_of ps n)
+kept_cons n p ps = ap (kept_at (p ∷ ps)) (position_cons (is_of n) p ps) ∙ by (is_of n p) (place_of ps n)
   where
     by : (b : Bool) (o : Option ℕ) → kept_at (p ∷ ps) (cond b (Some 0) (option_map suc o)) ≡ cond b p (kept_at ps o)
     by true o = refl
@@ -104,29 +62,25 @@ as_before ps n = record { places = refl; apart = λ a. a; others = λ other d. r
 -- where a page of the name goes
 data Goes (ps : List (Option Kept)) (n : Name) (j : ℕ) : Type 0 where
   over : place_of ps n ≡ Some j → Goes ps n j
-  beside : place_of ps n ≡ None → first_place is_free ps ≡ Some j → Goes ps n j
+  beside : place_of ps n ≡ None → position is_free ps ≡ Some j → Goes ps n j
 
 module _ (ps : List (Option Kept)) (n : Name) (j : ℕ) where
   goes_within : Goes ps n j → j < length ps
-  goes_within (over h) = first_within (is_of n) ps j h
-  goes_within (beside h f) = first_within is_free ps j f
+  goes_within (over h) = (position-Some (is_of n) ps j None h).0
+  goes_within (beside h f) = (position-Some is_free ps j None f).0
 
   goes_before : Goes ps n j → (i : ℕ) → i < j → is_of n (get_or ps i None) ≡ false
-  goes_before (over h) i l = first_before (is_of n) ps j h i l
+  goes_before (over h) i l = (position-Some (is_of n) ps j None h).2 i l
   goes_before (beside h f) i l = none_passes (is_of n) ps refl h i
 
   -- only a page of the name stands there
   goes_there : Goes ps n j → (x : Name) → (x ≡ n → ⊥) → is_of x (get_or ps j None) ≡ false
-  goes_there (over h) x d = by (is_of x (get_or ps j None)) refl
-    where
-      by : (b : Bool) → is_of x (get_or ps j None) ≡ b → b ≡ false
-      by true e = absurd (d (one_name x n (get_or ps j None) e (first_passes None (is_of n) ps j h)))
-      by false e = refl
-  goes_there (beside h f) x d = not_free x (get_or ps j None) (first_passes None is_free ps j f)
+  goes_there (over h) x d = false_from_ne_true _ (λ e. d (one_name x n (get_or ps j None) e (position-Some (is_of n) ps j None h).1))
+  goes_there (beside h f) x d = ap (is_of x) (free_is _ (position-Some is_free ps j None f).1)
 
   -- and nowhere else
   goes_only : Goes ps n j → Apart ps → (i : ℕ) → is_of n (get_or ps i None) ≡ true → i ≡ j
-  goes_only (over h) apart i t = apart n i j t (first_passes None (is_of n) ps j h)
+  goes_only (over h) apart i t = apart n i j t (position-Some (is_of n) ps j None h).1
   goes_only (beside h f) apart i t = absurd (both_ways (is_of n (get_or ps i None)) (none_passes (is_of n) ps refl h i) t)
 
   module _ (k : Kept) (goes : Goes ps n j) (named : k.name ≡ n) where
@@ -139,7 +93,7 @@ module _ (ps : List (Option Kept)) (n : Name) (j : ℕ) where
     -- it is what is kept of the name
     put_kept : kept_for (set ps j (Some k)) n ≡ Some k
     put_kept =
-        let found : place_of (set ps j (Some k)) n ≡ Some j = first_found None (is_of n) (set ps j (Some k)) j (λ i l. ap (is_of n) (get_or-set_other ps j i (Some k) None (λ e. absurd (omega arith))) ∙ goes_before goes i l) (subst (λ x. j < x) (sym (length-set ps j (Some k))) (goes_within goes)) (ap (is_of n) there ∙ is_its) in
+        let found : place_of (set ps j (Some k)) n ≡ Some j = found_at (is_of n) (set ps j (Some k)) j None (λ i l. ap (is_of n) (get_or-set_other ps j i (Some k) None (λ e. absurd (omega arith))) ∙ goes_before goes i l) (subst (λ x. j < x) (sym (length-set ps j (Some k))) (goes_within goes)) (ap (is_of n) there ∙ is_its) in
         ap (kept_at (set ps j (Some k))) found ∙ there
 
     -- a place after the change
@@ -162,11 +116,7 @@ module _ (ps : List (Option Kept)) (n : Name) (j : ℕ) where
         by (inr u) (inr v) = apart x a b u.1 v.1
 
     other_than : (x : Name) → (x ≡ n → ⊥) → is_of x (Some k) ≡ false
-    other_than x d = by (is_of x (Some k)) refl
-      where
-        by : (b : Bool) → is_of x (Some k) ≡ b → b ≡ false
-        by true e = absurd (d (one_name x n (Some k) e is_its))
-        by false e = refl
+    other_than x d = false_from_ne_true _ (λ e. d (one_name x n (Some k) e is_its))
 
     put_well : NoLower (kept_for ps n) (Some k) → KeptWell ps (set ps j (Some k)) n
     put_well low = record {
@@ -185,13 +135,13 @@ module _ (ps : List (Option Kept)) (q : Request) (w : Window) where
   take_well : (e t : ℕ) → KeptWell ps (kept_by ps q w (Take e t)) q.name
   take_well e t = by (may_replace e (kept_for ps q.name)) refl
     where
-      put : (o f : Option ℕ) → place_of ps q.name ≡ o → first_place is_free ps ≡ f → may_replace e (kept_for ps q.name) ≡ true → KeptWell ps (with_page ps (or_else o f) (Some (page_in q e t w))) q.name
+      put : (o f : Option ℕ) → place_of ps q.name ≡ o → position is_free ps ≡ f → may_replace e (kept_for ps q.name) ≡ true → KeptWell ps (with_page ps (option_or o f) (Some (page_in q e t w))) q.name
       put (Some j) f is g m = put_well ps q.name j (page_in q e t w) (over is) refl (replaces e (kept_for ps q.name) (page_in q e t w) m refl)
       put None (Some j) is g m = put_well ps q.name j (page_in q e t w) (beside is g) refl (replaces e (kept_for ps q.name) (page_in q e t w) m refl)
       put None None is g m = as_before ps q.name
 
       by : (b : Bool) → may_replace e (kept_for ps q.name) ≡ b → KeptWell ps (cond b (with_page ps (place_for ps q.name) (Some (page_in q e t w))) ps) q.name
-      by true m = put (place_of ps q.name) (first_place is_free ps) refl refl m
+      by true m = put (place_of ps q.name) (position is_free ps) refl refl m
       by false m = as_before ps q.name
 
   renew_well : (e : ℕ) (k : Kept) → serving ps q.name q.interval ≡ Some k → KeptWell ps (kept_by ps q w (Renew (max k.edition e))) q.name

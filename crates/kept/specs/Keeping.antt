@@ -1,8 +1,8 @@
 -- Pages that are kept, in eight places. Assumes nothing.
-use Rattle.std.specs.Prelude.{ℕ, Bool, true, false, cond, List, map, replicate, Some, None, vec_items, Option, nat_le, slice_index_or, slice_set}
+use Rattle.std.specs.Prelude.{ℕ, Bool, true, false, if◌then◌else◌, List, map, replicate, Some, None, Option, nat_le, position, slice_index_or, slice_set}
+use Rattle.std.specs.Option.{option_or}
 use Rattle.names.specs.declared.name.Name.{Name}
 use Rattle.names.specs.Comparing.{same_name}
-use Rattle.names.specs.Finding.{first_place}
 use Rattle.zone.specs.declared.rows.Interval.{Interval}
 use Rattle.zone.specs.declared.rows.Row.{Row}
 use Rattle.zone.specs.declared.windows.Window.{Window}
@@ -22,7 +22,7 @@ pub record Kept : Type 0 where
 -- what a window keeps under a label, or nothing
 abbrev pub labelled : Option Label → Window → Option Kept
 labelled None w = None
-labelled (Some l) w = Some (record { name = l.name; edition = l.edition; tag = l.tag; interval = w.interval; rows = vec_items w.rows })
+labelled (Some l) w = Some (record { name = l.name; edition = l.version.edition; tag = l.version.tag; interval = w.interval; rows = w.rows.items })
 
 -- what a place keeps
 abbrev pub kept_in : Place → Option Kept
@@ -30,7 +30,7 @@ kept_in p = labelled p.label p.window
 
 -- what the places keep, in their order
 abbrev pub kept : Places → List (Option Kept)
-kept p = map kept_in (vec_items p.places)
+kept p = map kept_in p.places
 
 -- eight places that keep nothing
 abbrev pub none_kept : List (Option Kept)
@@ -38,7 +38,7 @@ none_kept = replicate 8 None
 
 -- the label of a page that is kept
 abbrev pub label_of : Kept → Label
-label_of k = record { name = k.name; edition = k.edition; tag = k.tag }
+label_of k = record { name = k.name; version = record { edition = k.edition; tag = k.tag } }
 
 -- a page of this name is kept there
 abbrev pub is_of : Name → Option Kept → Bool
@@ -52,7 +52,7 @@ is_free (Some k) = false
 
 -- the place of the name's page
 abbrev pub place_of : List (Option Kept) → Name → Option ℕ
-place_of ps n = first_place (is_of n) ps
+place_of ps n = position (is_of n) ps
 
 -- what is kept at a place
 abbrev pub kept_at : List (Option Kept) → Option ℕ → Option Kept
@@ -66,20 +66,15 @@ kept_for ps n = kept_at ps (place_of ps n)
 -- the page, if its window contains the interval
 abbrev pub if_contains : Interval → Option Kept → Option Kept
 if_contains i None = None
-if_contains i (Some k) = cond (within i k.interval) (Some k) None
+if_contains i (Some k) = if within i k.interval then Some k else None
 
 -- what is kept of the name over an interval
 abbrev pub serving : List (Option Kept) → Name → Interval → Option Kept
 serving ps n i = if_contains i (kept_for ps n)
 
--- the one place, or else the other
-abbrev pub or_else : Option ℕ → Option ℕ → Option ℕ
-or_else None other = other
-or_else (Some j) other = Some j
-
 -- where a page of the name goes: in the place of the page that is kept of it, or else in the first free one
 abbrev pub place_for : List (Option Kept) → Name → Option ℕ
-place_for ps n = or_else (place_of ps n) (first_place is_free ps)
+place_for ps n = option_or (place_of ps n) (position is_free ps)
 
 -- the places after a page was put at a place; with no place, as they were
 abbrev pub with_page : List (Option Kept) → Option ℕ → Option Kept → List (Option Kept)

@@ -1,5 +1,5 @@
 -- What is asked below, what is answered and what is kept afterwards. Assumes nothing.
-use Rattle.std.specs.Prelude.{ℕ, max, Bool, cond, ◌&&◌, ◌||◌, List, [], Some, None, Ok, Err, vec_items, Option, Result, ◌==◌, nat_lt, slice_index}
+use Rattle.std.specs.Prelude.{ℕ, max, Bool, if◌then◌else◌, ◌&&◌, ◌||◌, List, [], Some, None, Ok, Err, Option, Result, ◌==◌, nat_lt, slice_index}
 use Rattle.std.specs.Option.{option_map}
 use Rattle.zone.specs.declared.refusals.Refusal.{Refusal}
 use Rattle.zone.specs.declared.windows.Window.{Window}
@@ -32,9 +32,9 @@ is_older k r = number r == 4 || ((number r == 5 || number r == 6) && nat_lt (sli
 
 -- what is done where a page of edition k is kept over the interval, and below answered r
 abbrev pub step_over : ℕ → Result Reply Refusal → Step
-step_over k (Err r) = cond (is_older k r) (Serve k) PassOn
+step_over k (Err r) = if is_older k r then Serve k else PassOn
 step_over k (Ok (Unchanged e)) = Renew (max k e)
-step_over k (Ok (Fresh e t)) = cond (nat_lt e k) (Serve k) (Take e t)
+step_over k (Ok (Fresh e t)) = if nat_lt e k then Serve k else Take e t
 
 -- what is done where none is
 abbrev pub step_beside : Result Reply Refusal → Step
@@ -54,7 +54,7 @@ from_kept m q (Some k) = inside_answer k.interval m q (record { tag = k.tag; row
 
 -- what a fresh page in the window w answers
 abbrev pub from_window : ℕ → ℕ → Request → Window → Outcome Answer
-from_window e t q w = inside_answer w.interval e q (record { tag = t; rows = vec_items w.rows })
+from_window e t q w = inside_answer w.interval e q (record { tag = t; rows = w.rows.items })
 
 -- what is answered by a step, where below answered r and left w in the window that it was lent
 abbrev pub answer_by : List (Option Kept) → Request → Result Reply Refusal → Window → Step → Outcome Answer
@@ -69,14 +69,14 @@ answer_after ps q r w = answer_by ps q r w (step (serving ps q.name q.interval) 
 
 -- the page of the request's name that the window w holds
 abbrev pub page_in : Request → ℕ → ℕ → Window → Kept
-page_in q e t w = record { name = q.name; edition = e; tag = t; interval = w.interval; rows = vec_items w.rows }
+page_in q e t w = record { name = q.name; edition = e; tag = t; interval = w.interval; rows = w.rows.items }
 
 -- what is kept after a step
 abbrev pub kept_by : List (Option Kept) → Request → Window → Step → List (Option Kept)
 kept_by ps q w PassOn = ps
 kept_by ps q w (Serve m) = ps
 kept_by ps q w (Renew m) = with_page ps (place_of ps q.name) (option_map (from_edition m) (kept_for ps q.name))
-kept_by ps q w (Take e t) = cond (may_replace e (kept_for ps q.name)) (with_page ps (place_for ps q.name) (Some (page_in q e t w))) ps
+kept_by ps q w (Take e t) = if may_replace e (kept_for ps q.name) then with_page ps (place_for ps q.name) (Some (page_in q e t w)) else ps
 
 -- what is kept afterwards
 abbrev pub kept_after : List (Option Kept) → Request → Result Reply Refusal → Window → List (Option Kept)

@@ -7,7 +7,7 @@ ghost use Rattle.kept.specs.Stepping.{answer_after, from_kept, kept_after};
 use super::places::{Label, Place, Places};
 use super::steps::Step;
 use provider::answers::answer_window;
-use provider::requests::{Edition, Reply, Request};
+use provider::requests::{Edition, Reply, Request, Version};
 use zone::refusals::Refusal;
 use zone::windows::Window;
 
@@ -22,10 +22,12 @@ impl Place {
         ensures told { judged result place.new ≡ from_kept edition request (kept_in self.now) }
         ensures leaves { Leaves result request.interval place.old place.new }
     {
-        match self.label {
-            None => Err(Refusal::Silent),
-            Some(label) => answer_window(&self.window, edition, label.tag, request, place),
-        }
+        let label = self.label.ok_or(Refusal::Silent)?;
+        let version = Version {
+            edition,
+            ..label.version
+        };
+        answer_window(&self.window, version, request, place)
     }
 }
 
@@ -40,10 +42,8 @@ impl Places {
         ensures told { judged result place.new ≡ from_kept edition request (kept_for (kept self.now) request.name) }
         ensures leaves { Leaves result request.interval place.old place.new }
     {
-        match self.find(&request.name) {
-            None => Err(Refusal::Silent),
-            Some(i) => self.places[i].answer(edition, request, place),
-        }
+        let i = self.find(&request.name).ok_or(Refusal::Silent)?;
+        self.places[i].answer(edition, request, place)
     }
 
     /// Answers the request, where below replied so to the request that was sent and left this in the window that it was lent; and keeps what is to be kept of it.
@@ -67,9 +67,10 @@ impl Places {
                 answer
             }
             Step::Take { edition, tag } => {
-                let answer = answer_window(window, edition, tag, request, place);
                 let name = request.name;
-                self.keep(Label { name, edition, tag }, window);
+                let version = Version { edition, tag };
+                let answer = answer_window(window, version, request, place);
+                self.keep(Label { name, version }, window);
                 answer
             }
         }

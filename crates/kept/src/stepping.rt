@@ -15,16 +15,8 @@ impl Place {
     fn serving(&self, interval: Interval) -> Option<Label>
         ensures { result ≡ option_map label_of (if_contains interval (kept_in self.now)) }
     {
-        match self.label {
-            None => None,
-            Some(label) => {
-                if interval.is_within(self.window.interval) {
-                    Some(label)
-                } else {
-                    None
-                }
-            }
-        }
+        self.label
+            .filter(|_| interval.is_within(self.window.interval))
     }
 }
 
@@ -34,8 +26,7 @@ fn is_older(held: Edition, refusal: Refusal) -> bool
 {
     match refusal {
         Refusal::Silent => true,
-        Refusal::NoPage { edition } => edition < held,
-        Refusal::TooManyRows { edition } => edition < held,
+        Refusal::NoPage { edition } | Refusal::TooManyRows { edition } => edition < held,
         _ => false,
     }
 }
@@ -45,23 +36,13 @@ fn step_over(held: Edition, reply: Result<Reply, Refusal>) -> Step
     ensures { result ≡ step_over held reply }
 {
     match reply {
-        Err(refusal) => {
-            if is_older(held, refusal) {
-                Step::Serve { edition: held }
-            } else {
-                Step::PassOn
-            }
-        }
+        Err(refusal) if is_older(held, refusal) => Step::Serve { edition: held },
+        Err(_) => Step::PassOn,
         Ok(Reply::Unchanged { edition }) => Step::Renew {
             edition: held.max(edition),
         },
-        Ok(Reply::Fresh { edition, tag }) => {
-            if edition < held {
-                Step::Serve { edition: held }
-            } else {
-                Step::Take { edition, tag }
-            }
-        }
+        Ok(Reply::Fresh { edition, .. }) if edition < held => Step::Serve { edition: held },
+        Ok(Reply::Fresh { edition, tag }) => Step::Take { edition, tag },
     }
 }
 
@@ -70,8 +51,7 @@ fn step_beside(reply: Result<Reply, Refusal>) -> Step
     ensures { result ≡ step_beside reply }
 {
     match reply {
-        Err(_) => Step::PassOn,
-        Ok(Reply::Unchanged { edition: _ }) => Step::PassOn,
+        Err(_) | Ok(Reply::Unchanged { .. }) => Step::PassOn,
         Ok(Reply::Fresh { edition, tag }) => Step::Take { edition, tag },
     }
 }
@@ -81,10 +61,8 @@ impl Places {
     fn serving(&self, request: &Request) -> Option<Label>
         ensures { result ≡ option_map label_of (serving_of (kept self.now) request.now.name request.now.interval) }
     {
-        match self.find(&request.name) {
-            None => None,
-            Some(i) => self.places[i].serving(request.interval),
-        }
+        let i = self.find(&request.name)?;
+        self.places[i].serving(request.interval)
     }
 
     /// The request to send below: with the tag of the page that is kept of the name, if that contains the interval, else as it is.
@@ -94,9 +72,8 @@ impl Places {
         match self.serving(&request) {
             None => request,
             Some(label) => Request {
-                name: request.name,
-                interval: request.interval,
-                known: label.tag,
+                known: label.version.tag,
+                ..request
             },
         }
     }
@@ -107,7 +84,7 @@ impl Places {
     {
         match self.serving(request) {
             None => step_beside(reply),
-            Some(label) => step_over(label.edition, reply),
+            Some(label) => step_over(label.version.edition, reply),
         }
     }
 }

@@ -2,6 +2,7 @@
 use provider::requests::{Edition, Tag};
 
 /// What is done with an answer from below.
+// A value and no closure: deciding changes nothing, and the answer and what is kept afterwards both follow from it.
 #[derive(Clone, Copy)]
 pub enum Step {
     /// The answer is passed on, and the pages are kept as they were.

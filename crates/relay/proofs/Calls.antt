@@ -1,5 +1,5 @@
 -- What the calls of a relay keep and owe. Assumes nothing.
-use Rattle.std.proofs.Common.{ℕ, Bool, List, Ok, Option, Result, sym, ◌∙◌, subst}
+use Rattle.std.proofs.Common.{ℕ, Bool, List, get_or, Some, None, Ok, Option, Result, sym, ◌∙◌, subst}
 use Rattle.names.specs.declared.name.Name.{Name}
 use Rattle.zone.specs.declared.refusals.Refusal.{Refusal}
 use Rattle.zone.specs.declared.windows.Table.{Table}
@@ -8,15 +8,28 @@ use Rattle.provider.specs.declared.providers.Provider.{Ghosts}
 use Rattle.provider.specs.declared.requests.Reply.{Reply}
 use Rattle.provider.specs.declared.requests.Request.{Request}
 use Rattle.provider.specs.Fetching.{Fetched}
-use Rattle.provider.specs.Meaning.{Meaning, Sound}
+use Rattle.provider.specs.Meaning.{Keeps, Meaning, Sound}
 use Rattle.provider.specs.Publishing.{Published}
 use Rattle.provider.specs.Whole.{meaning}
 use Rattle.provider.proofs.Checks.{Passes}
+use Rattle.provider.proofs.Held.{held_on}
 use Rattle.kept.specs.Keeping.{Kept}
-use Rattle.relay.specs.Relaying.{AllFrom, Answered}
-use Rattle.relay.specs.Over.{all_on, over, over_keeps}
+use Rattle.relay.specs.Relaying.{AllFrom, Answered, KeptFrom}
+use Rattle.relay.specs.Over.{over}
 use Rattle.relay.proofs.Served.{answer_told}
 use Rattle.relay.proofs.Staying.{kept_stays}
+
+-- a relay keeps what the provider below keeps
+over_keeps : (m m' : Meaning) (ps ps' : List (Option Kept)) → Keeps m m' → Keeps (over ps m) (over ps' m')
+over_keeps m m' ps ps' k = record { span = k.span; grows = k.grows; same = k.same }
+
+-- what was from the record is from it after a call
+kept_on : (m m' : Meaning) (o : Option Kept) → Sound m → Keeps m m' → KeptFrom m o → KeptFrom m' o
+kept_on m m' None s k h = tt
+kept_on m m' (Some x) s k h = held_on m m' x.name x.edition x.tag x.interval x.rows s k h
+
+all_on : (m m' : Meaning) (ps : List (Option Kept)) → Sound m → Keeps m m' → AllFrom m ps → AllFrom m' ps
+all_on m m' ps s k all j = kept_on m m' (get_or ps j None) s k (all j)
 
 -- a fetch that passes the checks
 pub relayed_fetch : {S : Type 0} (g : Ghosts S) (ps ps' : List (Option Kept)) (s s' : S) (q : Request) (before after : Window) (r : Result Reply Refusal) → Sound (meaning g s) → Passes q (g.span s) → g.in_order s → AllFrom (meaning g s) ps → Answered g ps ps' s s' q before after r → Fetched (over ps (meaning g s)) (over ps' (meaning g s')) (g.in_order s' × AllFrom (meaning g s') ps') q before after r

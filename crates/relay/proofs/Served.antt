@@ -1,5 +1,5 @@
 -- What a relay answers is what the record says at its turn. Assumes nothing.
-use Rattle.std.proofs.Common.{◌≡◌, ℕ, suc, ◌<◌, ◌≤◌, max, Bool, true, false, cond, eqb, ltb, ◌⊎◌, List, Some, None, Ok, Err, vec_items, Option, Result, sym, refl, ap, ◌∙◌, subst, inl, inr, arith}
+use Rattle.std.proofs.Common.{◌≡◌, ℕ, suc, ◌<◌, ◌≤◌, max, Bool, true, false, cond, eqb, ltb, ◌⊎◌, List, Some, None, Ok, Err, Option, Result, sym, refl, ap, ◌∙◌, subst, inl, inr, arith}
 use native.Mathlib.Nat.{max-eq_left, max-eq_right}
 use Rattle.std.proofs.lemmas.Bool.{cases_lt, leb-true, leb-false, or_left}
 use Rattle.names.specs.declared.name.Name.{Name}
@@ -33,13 +33,13 @@ module _ (m : Meaning) (sound : Sound m) (ps : List (Option Kept)) (all : AllFro
   turn = m.turn q.name q.interval
 
   -- a fresh window over the interval answers as the turn's page
-  takes : (e t : ℕ) (w : Window) (p : Page) → (over ps m).turn q.name q.interval ≡ e → m.pages e q.name ≡ Some p → p.tag ≡ t → vec_items w.rows ≡ cut p.rows q.interval → w.interval ≡ q.interval → from_window e t q w ≡ fetched (over ps m) q
+  takes : (e t : ℕ) (w : Window) (p : Page) → (over ps m).turn q.name q.interval ≡ e → m.pages e q.name ≡ Some p → p.tag ≡ t → w.rows.items ≡ cut p.rows q.interval → w.interval ≡ q.interval → from_window e t q w ≡ fetched (over ps m) q
   takes e t w p at page tag rows is =
       let self = within_itself q.interval m.span pass.inside in
       let paged = sound.paged e q.name p page in
       let inside : within q.interval w.interval ≡ true = subst (λ (x : Interval). within q.interval x ≡ true) (sym is) self in
-      let again : cut (vec_items w.rows) q.interval ≡ cut p.rows q.interval = ap (λ (x : List Row). cut x q.interval) rows ∙ (cuts_agree m.span p.rows q.interval paged.covers pass.inside).again q.interval self in
-      same_answer w.interval e q t (vec_items w.rows) p inside tag again ∙ sym (by_page (over ps m) q e p pass at paged.some page)
+      let again : cut (w.rows.items) q.interval ≡ cut p.rows q.interval = ap (λ (x : List Row). cut x q.interval) rows ∙ (cuts_agree m.span p.rows q.interval paged.covers pass.inside).again q.interval self in
+      same_answer w.interval e q t (w.rows.items) p inside tag again ∙ sym (by_page (over ps m) q e p pass at paged.some page)
 
   -- with no page kept over the interval, the answer is that of below
   beside : (r : Result Reply Refusal) (w lent : Window) → serving ps q.name q.interval ≡ None → judged r w ≡ fetched m q → Leaves r q.interval lent w → answer_by ps q r w (step None r) ≡ fetched (over ps m) q
@@ -55,7 +55,7 @@ module _ (m : Meaning) (sound : Sound m) (ps : List (Option Kept)) (all : AllFro
       by (Err r) h l = h ∙ same
       by (Ok (Unchanged e)) h l = h ∙ same
       by (Ok (Fresh e t)) h l =
-          let a = answers_come_from_pages.from_fresh m q e t (vec_items w.rows) (sym h) in
+          let a = answers_come_from_pages.from_fresh m q e t (w.rows.items) (sym h) in
           takes e t w a.0 (turn_is ∙ a.1.turn) a.1.page a.2 a.3 l
 
   -- with a page kept over it
@@ -94,13 +94,13 @@ module _ (m : Meaning) (sound : Sound m) (ps : List (Option Kept)) (all : AllFro
             let a = answers_come_from_pages.from_unchanged m asked e h in
             serves (max k.edition e) from.page (ap (max k.edition) a.1.turn) (ap (λ x. m.pages x q.name) (max-eq_left l) ∙ from.paged) from.tagged
 
-    above_fresh : (e t : ℕ) (w : Window) (b : Bool) → ltb e k.edition ≡ b → fetched m asked ≡ answered (fresh e t (vec_items w.rows)) → w.interval ≡ q.interval → answer_by ps q (Ok (Fresh e t)) w (cond b (Serve k.edition) (Take e t)) ≡ fetched (over ps m) q
+    above_fresh : (e t : ℕ) (w : Window) (b : Bool) → ltb e k.edition ≡ b → fetched m asked ≡ answered (fresh e t (w.rows.items)) → w.interval ≡ q.interval → answer_by ps q (Ok (Fresh e t)) w (cond b (Serve k.edition) (Take e t)) ≡ fetched (over ps m) q
     above_fresh e t w true b h l =
-        let a = answers_come_from_pages.from_fresh m asked e t (vec_items w.rows) h in
+        let a = answers_come_from_pages.from_fresh m asked e t (w.rows.items) h in
         let less = leb-true (suc e) k.edition b in
         serves_own (omega (arith, a.1.turn, less))
     above_fresh e t w false b h l =
-        let a = answers_come_from_pages.from_fresh m asked e t (vec_items w.rows) h in
+        let a = answers_come_from_pages.from_fresh m asked e t (w.rows.items) h in
         let more = leb-false (suc e) k.edition b in
         let most : max k.edition e ≡ e = max-eq_right (omega (arith, more)) in
         takes e t w a.0 (turn_is ∙ ap (max k.edition) a.1.turn ∙ most) a.1.page a.2 a.3 l

@@ -1,5 +1,5 @@
 -- What a relay keeps after a fetch is from the record. Assumes nothing.
-use Rattle.std.proofs.Common.{◌≡◌, ℕ, ◌<◌, ◌≤◌, max, Bool, true, false, cond, ltb, ◌⊎◌, List, Some, None, Ok, Err, vec_items, Option, Result, sym, refl, ap, ◌∙◌, subst, inl, inr, arith}
+use Rattle.std.proofs.Common.{◌≡◌, ℕ, zero, suc, ◌<◌, ◌≤◌, max, Bool, true, false, cond, ltb, ◌⊎◌, List, [], ◌∷◌, get_or, set, Some, None, Ok, Err, Option, Result, sym, refl, ap, ◌∙◌, subst, inl, inr, arith}
 use native.Mathlib.Nat.{max-eq_left, max-eq_right}
 use Rattle.std.specs.Option.{option_map}
 use Rattle.std.proofs.lemmas.Bool.{cases_lt}
@@ -24,15 +24,26 @@ use Rattle.kept.specs.Keeping.{Kept, from_edition, kept_for, may_replace, place_
 use Rattle.kept.specs.Stepping.{is_older, kept_after, kept_by, known_by, page_in, sent, step}
 use Rattle.kept.proofs.Finding.{kept_named, serving_parts}
 use Rattle.relay.specs.Relaying.{AllFrom, KeptFrom}
-use Rattle.relay.specs.Over.{with_from}
 use Rattle.relay.proofs.Served.{from}
+
+-- one place changes
+set_from : (m : Meaning) (ps : List (Option Kept)) (i : ℕ) (x : Option Kept) → KeptFrom m x → AllFrom m ps → (j : ℕ) → KeptFrom m (get_or (set ps i x) j None)
+set_from m [] i x h all j = all j
+set_from m (p ∷ ps) zero x h all zero = h
+set_from m (p ∷ ps) zero x h all (suc j) = all (suc j)
+set_from m (p ∷ ps) (suc i) x h all zero = all 0
+set_from m (p ∷ ps) (suc i) x h all (suc j) = set_from m ps i x h (λ l. all (suc l)) j
+
+with_from : (m : Meaning) (ps : List (Option Kept)) (o : Option ℕ) (x : Option Kept) → KeptFrom m x → AllFrom m ps → AllFrom m (with_page ps o x)
+with_from m ps None x h all = all
+with_from m ps (Some i) x h all = set_from m ps i x h all
 
 module _ (m : Meaning) (sound : Sound m) (ps : List (Option Kept)) (all : AllFrom m ps) (q : Request) (pass : Passes q m.span) where
   -- a fresh window holds the record's page
-  taken_from : (e t : ℕ) (w : Window) (p : Page) → m.pages e q.name ≡ Some p → p.tag ≡ t → vec_items w.rows ≡ cut p.rows q.interval → w.interval ≡ q.interval → AllFrom m (kept_by ps q w (Take e t))
+  taken_from : (e t : ℕ) (w : Window) (p : Page) → m.pages e q.name ≡ Some p → p.tag ≡ t → w.rows.items ≡ cut p.rows q.interval → w.interval ≡ q.interval → AllFrom m (kept_by ps q w (Take e t))
   taken_from e t w p page tag rows is = by (may_replace e (kept_for ps q.name))
     where
-      page_from : FromPage m q.name e t w.interval (vec_items w.rows)
+      page_from : FromPage m q.name e t w.interval (w.rows.items)
       page_from = record {
         page = p;
         paged = page;
@@ -50,7 +61,7 @@ module _ (m : Meaning) (sound : Sound m) (ps : List (Option Kept)) (all : AllFro
   beside_stays (Err r) w lent h l = all
   beside_stays (Ok (Unchanged e)) w lent h l = all
   beside_stays (Ok (Fresh e t)) w lent h l =
-      let a = answers_come_from_pages.from_fresh m q e t (vec_items w.rows) (sym h) in
+      let a = answers_come_from_pages.from_fresh m q e t (w.rows.items) (sym h) in
       taken_from e t w a.0 a.1.page a.2 a.3 l
 
   -- with a page kept over it
@@ -94,7 +105,7 @@ module _ (m : Meaning) (sound : Sound m) (ps : List (Option Kept)) (all : AllFro
     above_stays (Err r) w lent h l = served (is_older k.edition r) PassOn w (λ _. all)
     above_stays (Ok (Unchanged e)) w lent h l = renew_stays e (sym h) w
     above_stays (Ok (Fresh e t)) w lent h l =
-        let a = answers_come_from_pages.from_fresh m asked e t (vec_items w.rows) (sym h) in
+        let a = answers_come_from_pages.from_fresh m asked e t (w.rows.items) (sym h) in
         served (ltb e k.edition) (Take e t) w (λ _. taken_from e t w a.0 a.1.page a.2 a.3 l)
 
   pub kept_stays : (r : Result Reply Refusal) (w lent : Window) → judged r w ≡ fetched m (sent ps q) → Leaves r (sent ps q).interval lent w → AllFrom m (kept_after ps q r w)

@@ -44,8 +44,8 @@ module _ (q : Request) (t e n : ℕ) (vs : List ℕ) where
   many p true h = clash (eqb p.tag t) h
     where
       clash : {X : Type 0} (b : Bool) → refused n vs ≡ cond b (answered (unchanged e)) (answered (fresh e p.tag (cut p.rows q.interval))) → X
-      clash true g = let z : ◌≡◌ {A = ℕ} 0 1 = cc in absurd (omega arith)
-      clash false g = let z : ◌≡◌ {A = ℕ} 0 1 = cc in absurd (omega arith)
+      clash true g = cc
+      clash false g = cc
   many p false h = edition (inr (cc)) (cc) (sym h)
 
   paged : (o : Option Page) → refused n vs ≡ edition_answer e other o → RefusedBy e n vs (edition_answer e q o)

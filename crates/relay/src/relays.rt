@@ -17,7 +17,7 @@ use provider::answers::check;
 use provider::providers::Provider;
 use provider::publishing::Publishing;
 use provider::requests::{Edition, Reply, Request};
-use std::alloc::{AllocError, AllocFailed, Global};
+use std::alloc::{AllocFailed, Global};
 use zone::refusals::Refusal;
 use zone::rows::Interval;
 use zone::windows::{Table, Window};
@@ -30,15 +30,6 @@ pub struct Relay<P> {
     scratch: Window,
 }
 
-// The memory that a relay takes.
-fn memory(heap: Global) -> Result<(Places, Window), AllocError>
-    ensures { IfOk result (λ m. (kept m.0 ≡ none_kept) × (m.1.interval ≡ era) × (m.1.rows.items ≡ utc ∷ [])) }
-{
-    let places = Places::new(heap)?;
-    let scratch = Window::new(heap)?;
-    Ok((places, scratch))
-}
-
 impl<P: Provider> Relay<P> {
     /// A relay to the provider that keeps nothing yet, with all the memory that it will ever take. Where there is no memory, the provider is given back.
     pub fn new(heap: Global, below: P) -> Result<Relay<P>, AllocFailed<P>>
@@ -46,21 +37,14 @@ impl<P: Provider> Relay<P> {
         ensures order { IfOk result (λ relay. P.Provider.in_order below → P.Provider.in_order relay.below × AllFrom (meaning P.Provider relay.below) (kept relay.places)) }
         ensures turn { IfOk result (λ relay. (n : Name) (i : Interval) → relay_turn (kept relay.places) (P.Provider.turn relay.below) n i ≡ P.Provider.turn below n i) }
     {
-        match memory(heap) {
-            Ok((places, scratch)) => Ok(Relay {
-                below,
-                places,
-                scratch,
-            }),
-            Err(_) => Err(AllocFailed { value: below }),
-        }
-    }
-
-    // The checks that every fetch begins with, over the span below.
-    fn check_request(&self, request: &Request) -> Result<(), Refusal>
-        ensures { outcome result ≡ checked request.now (P.Provider.span self.now.below) (answered tt) }
-    {
-        check(request, self.below.span())
+        let (Ok(places), Ok(scratch)) = (Places::new(heap), Window::new(heap)) else {
+            return Err(AllocFailed { value: below });
+        };
+        Ok(Relay {
+            below,
+            places,
+            scratch,
+        })
     }
 
     // Asks below, with the window of the relay's own as the place, and answers from what came and from what is kept.
@@ -96,7 +80,7 @@ impl<P: Provider> Provider for Relay<P> {
 
     /// Fetches a page's cut into the lent window.
     fn fetch(&mut self, request: Request, place: &mut Window) -> Result<Reply, Refusal> {
-        self.check_request(&request)?;
+        check(&request, self.below.span())?;
         self.ask(request, place)
     }
 }
@@ -108,7 +92,7 @@ impl<P: Publishing> Publishing for Relay<P> {
 
     /// Publishes a table over the era for the name, and answers the number of the new edition.
     fn publish(&mut self, name: Name, table: &Table) -> Result<Edition, Refusal> {
-        let edition = self.below.publish(name, table)?;
-        Ok(edition)
+        // A refusal from below passes up by `?`, with the edition that it names.
+        Ok(self.below.publish(name, table)?)
     }
 }

@@ -1,20 +1,11 @@
-use Rattle.std.proofs.Common.{None, sym, arith, below_more}
-use Rattle.names.proofs.Finding.{first_found, first_none}
-use Rattle.kept.specs.Keeping.{is_free, kept}
-use Rattle.kept.proofs.Finding.{tested_there, kept_length}
+use Rattle.std.proofs.Common.{rules, tests, ◌∙◌, sym}
+use Rattle.std.proofs.lemmas.Iterator.{YieldsList-from_slice}
+use Rattle.std.proofs.lemmas.Iterator.Search.{position_from_yields_List}
+use Rattle.kept.specs.Keeping.{is_free, kept_in}
+use Rattle.kept.proofs.Finding.{position_of_map}
 use Rattle.kept.proofs.places.Places.find_free.Goals as goal
 
-pub returns-then-is_free : goal.returns-then-is_free
-returns-then-is_free c =
-    record {
-      place = sym (first_found None is_free (kept c.args.self.now) c.loop-i.i c.loop-i.invariant (omega (arith, kept_length c.args.self.now))
-          (tested_there is_free c.args.self.now c.loop-i.i c.index.result.now _ c.loop-i-test.true c.index.ensures c.if-is_free.ensures));
-      within = c.loop-i-test.true;
-    }
-
-pub loop-i-preserved : goal.loop-i-preserved
-loop-i-preserved c =
-    below_more _ _ c.loop-i.invariant (tested_there is_free c.args.self.now c.loop-i.i c.index.result.now _ c.loop-i-test.true c.index.ensures c.if-is_free.ensures)
-
-pub returns : goal.returns
-returns c = record { place = sym (first_none None is_free (kept c.args.self.now) (λ k l. c.loop-i.invariant k (omega (arith, kept_length c.args.self.now)))); within = tt }
+pub returns-clause-place : goal.returns-clause-place
+returns-clause-place c =
+    position_from_yields_List (λ place. is_free (kept_in place)) _ _ c.position.result c.position.ensures.ran (YieldsList-from_slice _ c.iter.ensures.rest) (λ x b q k. search (rules, tests))
+    ∙ sym (position_of_map is_free kept_in c.args.self.now.places)

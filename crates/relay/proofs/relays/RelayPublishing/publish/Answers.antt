@@ -8,5 +8,5 @@ returns g c =
     let s = c.args.self.now in
     record {
       after = (c.publish.ensures.after, refl, refl);
-      told = λ o. relayed_published (kept s.places) (g.met.P.Provider.sound s.below o.0) o.1 (c.in_ok-edition.ensures.told o.0);
+      told = λ o. relayed_published (kept s.places) (g.met.P.Provider.sound s.below o.0) o.1 (c.in_ok-publish.ensures.told o.0);
     }
