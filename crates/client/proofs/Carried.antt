@@ -43,7 +43,7 @@ freed_matches tokens s k idle h j l = h j l ∙ ap (token_for j) (elim (cases_eq
 
 module _ {S : Type 0} (g : Ghosts S) (before after : S) (s s' : State) (tokens : List (Option PendingFetch)) where
   -- a call that asks the provider nothing
-  steady : (call : Call) (tokens' : List (Option PendingFetch)) (r : Report) → step (meaning g before) (λ n. false) s call ≡ record { report = r; state = s' } → Moves (source g) s call before after → after ≡ before → g.in_order before → Agrees (meaning g before) s' → Matches tokens' s' → Performed g call before after s s' tokens' r
+  steady : (call : Call) (tokens' : List (Option PendingFetch)) (r : Report) → step (meaning g before) (λ n. false) s call ≡ record { report = r; state = s' } → Moves (source g) s call before after → after ≡ before → g.in_order before → Agrees (meaning g before) s' → Matches tokens' s' → Performed g (source g) call before after s s' tokens' r
   steady call tokens' r t moves same o a h =
       record {
         told = t;
@@ -54,20 +54,20 @@ module _ {S : Type 0} (g : Ghosts S) (before after : S) (s s' : State) (tokens :
       }
 
   -- a refused call, which leaves all as it was
-  still : (call : Call) (r : Report) → step (meaning g before) (λ n. false) s call ≡ record { report = r; state = s' } → Moves (source g) s call before after → after ≡ before → s' ≡ s → ClientInOrder g before s → Matches tokens s → Performed g call before after s s' tokens r
+  still : (call : Call) (r : Report) → step (meaning g before) (λ n. false) s call ≡ record { report = r; state = s' } → Moves (source g) s call before after → after ≡ before → s' ≡ s → ClientInOrder g before s → Matches tokens s → Performed g (source g) call before after s s' tokens r
   still call r t moves same q o h = steady call tokens r t moves same o.order (subst (Agrees (meaning g before)) (sym q) o.agrees) (subst (Matches tokens) (sym q) h)
 
-  pub begin_refused : (n : Name) (i : Interval) (num : ℕ) (vs : List ℕ) → ComesTo (begin_step (meaning g before) s n i) (declined num vs) s' → after ≡ before → ClientInOrder g before s → Matches tokens s → Performed g (begin n i) before after s s' tokens (declined num vs)
+  pub begin_refused : (n : Name) (i : Interval) (num : ℕ) (vs : List ℕ) → ComesTo (begin_step (meaning g before) s n i) (declined num vs) s' → after ≡ before → ClientInOrder g before s → Matches tokens s → Performed g (source g) (begin n i) before after s s' tokens (declined num vs)
   begin_refused n i num vs t same o h = still (begin n i) (declined num vs) t same same (unchanged (begin_is (meaning g before) s n i o.agrees)) o h
     where
       unchanged : Declines s (begin_step (meaning g before) s n i) ⊎ Marks (meaning g before) s i (begin_step (meaning g before) s n i) → s' ≡ s
       unchanged (inl d) = same_state d.2 t
       unchanged (inr x) = let q = same_report x.is t in clash (cc)
 
-  pub begin_done : (n : Name) (i : Interval) (k : ℕ) (p : PendingFetch) (o' : Option PendingFetch) → length tokens ≡ 16 → length s.cells ≡ 16 → k < 16 → p.slot ≡ k → p.spent ≡ false → o' ≡ Some p → ComesTo (begin_step (meaning g before) s n i) (began k p.interval) s' → after ≡ before → ClientInOrder g before s → Matches tokens s → (p.interval ≡ i) × Performed g (begin n i) before after s s' (set tokens k o') (began k i)
+  pub begin_done : (n : Name) (i : Interval) (k : ℕ) (p : PendingFetch) (o' : Option PendingFetch) → length tokens ≡ 16 → length s.cells ≡ 16 → k < 16 → p.slot ≡ k → p.spent ≡ false → o' ≡ Some p → ComesTo (begin_step (meaning g before) s n i) (began k p.interval) s' → after ≡ before → ClientInOrder g before s → Matches tokens s → (p.interval ≡ i) × Performed g (source g) (begin n i) before after s s' (set tokens k o') (began k i)
   begin_done n i k p o' lt lc l slot spent is t same o h = go (begin_is (meaning g before) s n i o.agrees)
     where
-      go : Declines s (begin_step (meaning g before) s n i) ⊎ Marks (meaning g before) s i (begin_step (meaning g before) s n i) → (p.interval ≡ i) × Performed g (begin n i) before after s s' (set tokens k o') (began k i)
+      go : Declines s (begin_step (meaning g before) s n i) ⊎ Marks (meaning g before) s i (begin_step (meaning g before) s n i) → (p.interval ≡ i) × Performed g (source g) (begin n i) before after s s' (set tokens k o') (began k i)
       go (inl d) = let q = same_report d.2 t in clash (cc)
       go (inr x) =
           let q = same_report x.is t in
@@ -97,7 +97,7 @@ module _ {S : Type 0} (g : Ghosts S) (before after : S) (s s' : State) (tokens :
     kind : HandsBack s (collect_step (meaning g before) s n) ⊎ Holds s k (collect_step (meaning g before) s n)
     kind = subst (λ x. HandsBack s x ⊎ Holds s k x) (sym (collect_by_place (meaning g before) s n k hand.interval place hand.marked)) (collect_is s k hand.interval ((meaning g before).turn n hand.interval) ((meaning g before).pages ((meaning g before).turn n hand.interval) n))
 
-    pub collect_done : (e : ℕ) (o' : Option PendingFetch) → o' ≡ None → Asked g s p.slot p.interval before after → Collected g s p.slot p.interval before after (collected e) s' → Performed g (collect n) before after s s' (set tokens k o') (collected e)
+    pub collect_done : (e : ℕ) (o' : Option PendingFetch) → o' ≡ None → Asked g s p.slot p.interval before after → Collected g s p.slot p.interval before after (collected e) s' → Performed g (source g) (collect n) before after s s' (set tokens k o') (collected e)
     collect_done e o' gone a c = record { told = by_slot (collected e) c.told; moves = asks a; keeps = c.keeps; order = c.order; matches = go kind }
       where
         go : HandsBack s (collect_step (meaning g before) s n) ⊎ Holds s k (collect_step (meaning g before) s n) → Matches (set tokens k o') s'
@@ -106,7 +106,7 @@ module _ {S : Type 0} (g : Ghosts S) (before after : S) (s s' : State) (tokens :
             let state = same_state x.is (by_slot (collected e) c.told) in
             subst (Matches (set tokens k o')) (sym state) (matches_set tokens s k x.edition x.cell o' lt lc l (gone ∙ ap (token_for k) (sym x.pending)) h)
 
-    pub collect_refused : (num : ℕ) (vs : List ℕ) (back : PendingFetch) (o' : Option PendingFetch) → back ≡ p → Asked g s p.slot p.interval before after → Collected g s p.slot p.interval before after (handed_back num vs back.slot back.interval) s' → Performed g (collect n) before after s s' (set (set tokens k o') k (Some back)) (handed_back num vs k back.interval)
+    pub collect_refused : (num : ℕ) (vs : List ℕ) (back : PendingFetch) (o' : Option PendingFetch) → back ≡ p → Asked g s p.slot p.interval before after → Collected g s p.slot p.interval before after (handed_back num vs back.slot back.interval) s' → Performed g (source g) (collect n) before after s s' (set (set tokens k o') k (Some back)) (handed_back num vs k back.interval)
     collect_refused num vs back o' same a c =
         let slot : back.slot ≡ k = ap (λ (x : PendingFetch). x.slot) (same ∙ hand.token) in
         let t = by_slot (handed_back num vs back.slot back.interval) c.told ∙ ap (λ x. record { report = handed_back num vs x back.interval; state = s' }) slot in
@@ -124,7 +124,7 @@ module _ {S : Type 0} (g : Ghosts S) (before after : S) (s s' : State) (tokens :
     unmarks : abandon_step s n ≡ record { report = abandoned; state = with_cell s k (unmarked (cell_at s k) (cell_at s k).copy) }
     unmarks = ap (abandon_place s) place ∙ ap (abandon_pending s k) hand.marked
 
-    pub abandon_done : (o' : Option PendingFetch) → o' ≡ None → ComesTo (abandon_token s p.slot p.interval) abandoned s' → after ≡ before → Performed g (abandon n) before after s s' (set tokens k o') abandoned
+    pub abandon_done : (o' : Option PendingFetch) → o' ≡ None → ComesTo (abandon_token s p.slot p.interval) abandoned s' → after ≡ before → Performed g (source g) (abandon n) before after s s' (set tokens k o') abandoned
     abandon_done o' gone t same =
         let m = meaning g before in
         let c = unmarked (cell_at s k) (cell_at s k).copy in
@@ -135,17 +135,17 @@ module _ {S : Type 0} (g : Ghosts S) (before after : S) (s s' : State) (tokens :
     pub abandon_refused : {X : Type 0} (num : ℕ) (vs : List ℕ) (a : ℕ) (b : Interval) → ComesTo (abandon_token s p.slot p.interval) (handed_back num vs a b) s' → X
     abandon_refused num vs a b t = let q = same_report unmarks (abandons (handed_back num vs a b) t) in clash (cc)
 
-  pub forget_refused : (n : Name) (num : ℕ) (vs : List ℕ) → ComesTo (forget_step s n) (declined num vs) s' → after ≡ before → ClientInOrder g before s → Matches tokens s → Performed g (forget n) before after s s' tokens (declined num vs)
+  pub forget_refused : (n : Name) (num : ℕ) (vs : List ℕ) → ComesTo (forget_step s n) (declined num vs) s' → after ≡ before → ClientInOrder g before s → Matches tokens s → Performed g (source g) (forget n) before after s s' tokens (declined num vs)
   forget_refused n num vs t same o h = still (forget n) (declined num vs) t same same (unchanged (forget_is s n)) o h
     where
       unchanged : Declines s (forget_step s n) ⊎ Frees s (forget_step s n) → s' ≡ s
       unchanged (inl d) = same_state d.2 t
       unchanged (inr x) = let q = same_report x.is t in clash (cc)
 
-  pub forget_done : (n : Name) → ComesTo (forget_step s n) forgotten s' → after ≡ before → length s.cells ≡ 16 → ClientInOrder g before s → Matches tokens s → Performed g (forget n) before after s s' tokens forgotten
+  pub forget_done : (n : Name) → ComesTo (forget_step s n) forgotten s' → after ≡ before → length s.cells ≡ 16 → ClientInOrder g before s → Matches tokens s → Performed g (source g) (forget n) before after s s' tokens forgotten
   forget_done n t same lc o h = go (forget_is s n)
     where
-      go : Declines s (forget_step s n) ⊎ Frees s (forget_step s n) → Performed g (forget n) before after s s' tokens forgotten
+      go : Declines s (forget_step s n) ⊎ Frees s (forget_step s n) → Performed g (source g) (forget n) before after s s' tokens forgotten
       go (inl d) = let q = same_report d.2 t in clash (cc)
       go (inr x) =
           let m = meaning g before in

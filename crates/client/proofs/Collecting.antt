@@ -1,5 +1,5 @@
 -- What the client makes of a reply is what the rules say of the collect. Assumes nothing.
-use Rattle.std.proofs.Common.{◌≡◌, ℕ, ◌≤◌, Bool, true, false, cond, eqb, ltb, leb, List, [], ◌∷◌, length, Some, None, Ok, Err, vec_items, MatchBool, Option, Result, sym, refl, ap, ◌∙◌, subst, arith}
+use Rattle.std.proofs.Common.{◌≡◌, ℕ, ◌≤◌, Bool, true, false, cond, eqb, ltb, leb, List, [], ◌∷◌, length, Some, None, Ok, Err, vec_items, MatchOption, Option, Result, sym, refl, ap, ◌∙◌, subst, arith}
 use Rattle.std.proofs.lemmas.Bool.{le-leb, ne_eqb}
 use Rattle.names.specs.declared.name.Name.{Name}
 use Rattle.zone.specs.declared.refusals.Refusal.{Refusal}
@@ -22,11 +22,12 @@ use Rattle.provider.proofs.Held.{held_cut}
 use Rattle.provider.proofs.Checks.{checked_next, answers_come_from_pages}
 use Rattle.history.specs.Cells.{Copy, Cell, State, cell_at}
 use Rattle.history.specs.Steps.{handed_back, Step, stays, known_tag, accepted, taken, collected_at}
+use Rattle.slots.proofs.Requests.{request_is}
 use Rattle.client.specs.Agreeing.{Copied, Ready, CopiedIf, ReadyIf, CellAgrees, Agrees}
-use Rattle.client.specs.Following.{AskedBy, Asked}
+use Rattle.client.specs.Following.{Asked}
 use Rattle.slots.specs.Taking.{can_renew, renewed, renewal, floored, holds, take_unchanged, take_fresh, take_reply}
-use Rattle.slots.specs.Told.{is_pending, request_for, request_of}
-use Rattle.client.specs.Told.{collect_owner, collect_token}
+use Rattle.slots.specs.Told.{is_pending, request_for}
+use Rattle.client.specs.Told.{collect_request, collect_token}
 
 clash : {X : Type 0} → ◌≡◌ {A = ℕ} 0 1 → X
 clash z = absurd (omega arith)
@@ -139,42 +140,41 @@ module _ (m : Meaning) (s : State) (k : ℕ) (i : Interval) (n : Name) where
 
 -- the reply and the rules agree
 module _ (m : Meaning) (sound : Sound m) (s : State) (k : ℕ) (i : Interval) (n : Name) (copied : CopiedIf m n (cell_at s k).copy) (ready : Ready m n i) where
-  abbrev asked : Request
-  asked = record { name = n; interval = i; known = known_tag (cell_at s k).copy i }
+  abbrev sent : Request
+  sent = record { name = n; interval = i; known = known_tag (cell_at s k).copy i }
 
   abbrev by_rules : Step
   by_rules = collected_at s k i (m.turn n i) (m.pages (m.turn n i) n)
 
-  took_unchanged : (e : ℕ) → fetched m asked ≡ answered (unchanged e) → cond (ltb e s.floor) (stays s (handed_back 7 (e ∷ []) k i)) (take_unchanged s k i e) ≡ by_rules
+  took_unchanged : (e : ℕ) → fetched m sent ≡ answered (unchanged e) → cond (ltb e s.floor) (stays s (handed_back 7 (e ∷ []) k i)) (take_unchanged s k i e) ≡ by_rules
   took_unchanged e h =
-      let a = answers_come_from_pages.from_unchanged m asked e h in
+      let a = answers_come_from_pages.from_unchanged m sent e h in
       let p = a.0 in
       let r = renewal_is m sound n i e p a.1.page (cell_at s k) (cell_at s k).copy a.2 copied in
       let held = ap (λ b. cond b (holds s k e (renewal i e (cell_at s k) (cell_at s k).copy)) (stays s (handed_back 4 [] k i))) r.0 ∙ ap (holds s k e) r.1 in
       ap (cond (ltb e s.floor) (stays s (handed_back 7 (e ∷ []) k i))) held ∙ sym (turned m s k i n e p a.1.turn a.1.some a.1.page a.1.small)
 
-  took_fresh : (e g : ℕ) (w : Window) → fetched m asked ≡ answered (fresh e g (vec_items w.rows)) → w.interval ≡ i → cond (ltb e s.floor) (stays s (handed_back 7 (e ∷ []) k i)) (take_fresh s k e g w) ≡ by_rules
+  took_fresh : (e g : ℕ) (w : Window) → fetched m sent ≡ answered (fresh e g (vec_items w.rows)) → w.interval ≡ i → cond (ltb e s.floor) (stays s (handed_back 7 (e ∷ []) k i)) (take_fresh s k e g w) ≡ by_rules
   took_fresh e g w h l =
-      let a = answers_come_from_pages.from_fresh m asked e g (vec_items w.rows) h in
+      let a = answers_come_from_pages.from_fresh m sent e g (vec_items w.rows) h in
       let p = a.0 in
       let cell : ℕ → Interval → List Row → Step = λ t x rows. holds s k e (record { owner = (cell_at s k).owner; copy = Some (record { edition = e; tag = t; interval = x; rows = rows }); pending = None }) in
       let held = ap (λ t. cell t w.interval (vec_items w.rows)) (sym a.2) ∙ ap (λ x. cell p.tag x (vec_items w.rows)) l ∙ ap (cell p.tag i) a.3 in
       ap (cond (ltb e s.floor) (stays s (handed_back 7 (e ∷ []) k i))) held ∙ sym (turned m s k i n e p a.1.turn a.1.some a.1.page a.1.small)
 
-  took_refused : (r : Refusal) → refused (number r) (values r) ≡ fetched m asked → stays s (handed_back (number (floored s.floor r)) (values (floored s.floor r)) k i) ≡ by_rules
+  took_refused : (r : Refusal) → refused (number r) (values r) ≡ fetched m sent → stays s (handed_back (number (floored s.floor r)) (values (floored s.floor r)) k i) ≡ by_rules
   took_refused r h =
-      let c = checked_next asked m.span (turn_answer (m.turn n i) asked (m.pages (m.turn n i) n)) (record { name = ready.name; era = ready.in_era; inside = ready.inside }) in
-      refused_turn s k i asked (number r) (number (floored s.floor r)) (values r) (values (floored s.floor r)) (floored_says s.floor r) (m.turn n i) (m.pages (m.turn n i) n) (eqb (m.turn n i) 0) refl (h ∙ c) refl
+      let c = checked_next sent m.span (turn_answer (m.turn n i) sent (m.pages (m.turn n i) n)) (record { name = ready.name; era = ready.in_era; inside = ready.inside }) in
+      refused_turn s k i sent (number r) (number (floored s.floor r)) (values r) (values (floored s.floor r)) (floored_says s.floor r) (m.turn n i) (m.pages (m.turn n i) n) (eqb (m.turn n i) 0) refl (h ∙ c) refl
 
-  pub took : (r : Result Reply Refusal) (w w0 : Window) → judged r w ≡ fetched m asked → Leaves r i w0 w → take_reply s k i r w ≡ by_rules
+  pub took : (r : Result Reply Refusal) (w w0 : Window) → judged r w ≡ fetched m sent → Leaves r i w0 w → take_reply s k i r w ≡ by_rules
   took (Ok (Unchanged e)) w w0 h l = took_unchanged e (sym h)
   took (Ok (Fresh e g)) w w0 h l = took_fresh e g w (sym h) l
   took (Err r) w w0 h l = took_refused r h
 
 -- the collect of a slot that is pending
 pub token_is : (m : Meaning) (s : State) (k : ℕ) (i : Interval) (n : Name) → is_pending (cell_at s k).pending i ≡ true → (cell_at s k).owner ≡ Some n → collect_token m s k i ≡ collected_at s k i (m.turn n i) (m.pages (m.turn n i) n)
-token_is m s k i n p o =
-    ap (λ b. cond b (collect_owner m s k i (cell_at s k).owner) (stays s (handed_back 10 [] k i))) p ∙ ap (collect_owner m s k i) o
+token_is m s k i n p o = ap (collect_request m s k i) (request_is (cell_at s k) i n p o)
 
 -- what the owner's cell agrees on
 pub agrees_on : (m : Meaning) (s : State) (k : ℕ) (i : Interval) (n : Name) → Agrees m s → is_pending (cell_at s k).pending i ≡ true → (cell_at s k).owner ≡ Some n → CopiedIf m n (cell_at s k).copy × Ready m n i
@@ -184,35 +184,8 @@ agrees_on m s k i n a p o =
 
 -- the collect of a slot that has no request
 pub none_asked : (m : Meaning) (s : State) (k : ℕ) (i : Interval) → request_for (cell_at s k) i ≡ None → collect_token m s k i ≡ stays s (handed_back 10 [] k i)
-none_asked m s k i h = by (is_pending (cell_at s k).pending i) h
-  where
-    owned : (o : Option Name) → request_of o (cell_at s k).copy i ≡ None → collect_owner m s k i o ≡ stays s (handed_back 10 [] k i)
-    owned None g = refl
-    owned (Some n) g = clash (cc)
+none_asked m s k i h = ap (collect_request m s k i) h
 
-    by : (b : Bool) → cond b (request_of (cell_at s k).owner (cell_at s k).copy i) None ≡ None → cond b (collect_owner m s k i (cell_at s k).owner) (stays s (handed_back 10 [] k i)) ≡ stays s (handed_back 10 [] k i)
-    by true g = owned (cell_at s k).owner g
-    by false g = refl
-
--- a slot that has no request asks nothing; one that has asks just that
-pub asked_none : {S : Type 0} (g : Ghosts S) (s : State) (k : ℕ) (i : Interval) (before : S) → request_for (cell_at s k) i ≡ None → Asked g s k i before before
-asked_none g s k i before h = by (is_pending (cell_at s k).pending i) h
-  where
-    owned : (o : Option Name) → request_of o (cell_at s k).copy i ≡ None → AskedBy g o (cell_at s k).copy i before before
-    owned None q = refl
-    owned (Some n) q = clash (cc)
-
-    by : (b : Bool) → cond b (request_of (cell_at s k).owner (cell_at s k).copy i) None ≡ None → MatchBool b (AskedBy g (cell_at s k).owner (cell_at s k).copy i before before) (before ≡ before)
-    by true q = owned (cell_at s k).owner q
-    by false q = refl
-
-pub asked_some : {S : Type 0} (g : Ghosts S) (s : State) (k : ℕ) (i : Interval) (before after : S) (q : Request) → request_for (cell_at s k) i ≡ Some q → g.after_fetch before q after → Asked g s k i before after
-asked_some g s k i before after q h a = by (is_pending (cell_at s k).pending i) h
-  where
-    owned : (o : Option Name) → request_of o (cell_at s k).copy i ≡ Some q → AskedBy g o (cell_at s k).copy i before after
-    owned None e = clash (cc)
-    owned (Some n) e = let r : record { name = n; interval = i; known = known_tag (cell_at s k).copy i } ≡ q = cc in subst (λ (x : Request). g.after_fetch before x after) (sym r) a
-
-    by : (b : Bool) → cond b (request_of (cell_at s k).owner (cell_at s k).copy i) None ≡ Some q → MatchBool b (AskedBy g (cell_at s k).owner (cell_at s k).copy i before after) (after ≡ before)
-    by true e = owned (cell_at s k).owner e
-    by false e = clash (cc)
+-- what is asked by its request is what a collect asks
+pub asked : {S : Type 0} (g : Ghosts S) (s : State) (k : ℕ) (i : Interval) (before after : S) (q : Option Request) → request_for (cell_at s k) i ≡ q → MatchOption q (after ≡ before) (λ x. g.after_fetch before x after) → Asked g s k i before after
+asked g s k i before after q h a = subst (λ (o : Option Request). MatchOption o (after ≡ before) (λ x. g.after_fetch before x after)) (sym h) a

@@ -18,7 +18,7 @@ use Rattle.client.specs.declared.listing.Call.TheVariants.{Begin, Collect, Aband
 use Rattle.client.specs.declared.pending.PendingFetch.{PendingFetch}
 use Rattle.client.specs.Agreeing.{Agrees}
 use Rattle.client.specs.Following.{ClientInOrder}
-use Rattle.client.specs.Listing.{call_of, Matches, Performed, Posted}
+use Rattle.client.specs.Listing.{call_of, Matches, Performed}
 use Rattle.client.proofs.Agreement.{keeps_same, agrees_keeps}
 
 -- what fits matters only to publications
@@ -42,10 +42,10 @@ publish_keeps g h before after n t (Ok e) p = p.brings.keeps
 publish_keeps g h before after n t (Err e) p = subst (λ x. Keeps (meaning g before) (meaning g x)) (sym p.brings) (keeps_same (meaning g before))
 
 module _ {S : Type 0} (g : Ghosts S) (h : PublishingGhosts S) (before after : S) (s s' : State) (tokens' : List (Option PendingFetch)) where
-  pub posted_call : (c : Call) (r : Report) → Performed g (call_of c) before after s s' tokens' r → Posted g h (call_of c) before after s s' tokens' r
+  pub posted_call : (c : Call) (r : Report) → Performed g (source g) (call_of c) before after s s' tokens' r → Performed g (publishing_source g h) (call_of c) before after s s' tokens' r
   posted_call c r p = record { told = fits_alike (meaning g before) (h.fits before) (λ n. false) s c ∙ p.told; moves = moves_alike g h s c before after p.moves; keeps = p.keeps; order = p.order; matches = p.matches }
 
-  pub posted : (n : Name) (t : Table) (r : Result ℕ Refusal) → Sound (meaning g before) → s' ≡ s → h.after_publish before n t after → Published (meaning g before) (meaning g after) (g.in_order after) (h.fits before) n t before after r → ClientInOrder g before s → Matches tokens' s → Posted g h (publish n t) before after s s' tokens' (publish_report (outcome r))
+  pub posted : (n : Name) (t : Table) (r : Result ℕ Refusal) → Sound (meaning g before) → s' ≡ s → h.after_publish before n t after → Published (meaning g before) (meaning g after) (g.in_order after) (h.fits before) n t before after r → ClientInOrder g before s → Matches tokens' s → Performed g (publishing_source g h) (publish n t) before after s s' tokens' (publish_report (outcome r))
   posted n t r sound q moves p o m =
       let keeps = publish_keeps g h before after n t r p in
       record {

@@ -5,3 +5,4 @@ pub mod Carried
 pub mod Starting
 pub mod Entries
 pub mod Ordered
+pub mod Taken

@@ -1,10 +1,8 @@
 -- What each call of a list does to the cells, and that the pending fetches at hand go on matching them. Assumes nothing.
-use Rattle.std.proofs.Common.{◌≡◌, ℕ, ◌<◌, true, false, cond, eqb, ltb, leb, ◌⊎◌, List, [], ◌∷◌, length, get_or, set, Some, None, Option, sym, refl, ap, ◌∙◌, subst, inl, inr, arith}
+use Rattle.std.proofs.Common.{◌≡◌, ℕ, ◌<◌, true, false, cond, eqb, ltb, leb, ◌⊎◌, List, [], ◌∷◌, length, position, get_or, set, Some, None, MatchOption, Option, sym, refl, ap, ◌∙◌, subst, inl, inr, arith}
 use Rattle.std.proofs.lemmas.List.{get_or-set_same, get_or-set_other}
 use Rattle.std.proofs.lemmas.Bool.{cases_eq, cond_both}
-use Rattle.std.proofs.lemmas.Bool.Decides.{when_true}
 use Rattle.names.specs.declared.name.Name.{Name}
-use Rattle.names.specs.Finding.{first_place}
 use Rattle.names.proofs.Ordered.{same_name_is}
 use Rattle.zone.specs.declared.rows.Interval.{Interval}
 use Rattle.zone.specs.Intervals.{era, within}
@@ -14,15 +12,17 @@ use Rattle.zone.specs.Rows.{window_rows}
 use Rattle.zone.proofs.Testing.{decides_interval}
 use Rattle.cutting.specs.Cutting.{cut}
 use Rattle.provider.specs.declared.providers.Provider.{Ghosts}
+use Rattle.provider.specs.declared.requests.Request.{Request}
 use Rattle.provider.specs.Meaning.{Meaning, Page}
 use Rattle.history.specs.Cells.{Copy, Cell, State, free, is_owner, owned_by, has_no_owner, is_free, place_of, cell_at, with_cell}
 use Rattle.history.specs.Histories.{Asks, Collects}
 use Rattle.history.specs.Sources.{source}
 use Rattle.history.specs.Steps.{began, collected, forgotten, declined, handed_back, Step, stays, settled, marked, reserved, begun, begin_step, taken, collected_at, collect_pending, collect_place, collect_step, unmarked, abandon_pending, abandon_place, abandon_step, forgotten_at, forget_place, forget_step}
 use Rattle.history.proofs.Places.{clash, by_option, place_some, passes_at}
+use Rattle.slots.proofs.Requests.{request_is}
 use Rattle.client.specs.declared.pending.PendingFetch.{PendingFetch}
 use Rattle.client.specs.Agreeing.{Ready, CopiedIf, CellAgrees, Agrees}
-use Rattle.client.specs.Following.{AskedBy, Asked}
+use Rattle.client.specs.Following.{Asked}
 use Rattle.client.specs.Listing.{token_for, Matches}
 use Rattle.slots.specs.Told.{is_pending, abandon_token}
 
@@ -39,7 +39,7 @@ unowned (Some a) h = clash (let z : false ≡ true = h in cc)
 pub owned_at : (s : State) (n : Name) (k : ℕ) → place_of s n ≡ Some k → (cell_at s k).owner ≡ Some n
 owned_at s n k h = owner_is n (cell_at s k).owner (passes_at (owned_by n) s.cells k (place_some (owned_by n) s.cells k h))
 
-free_at : (s : State) (k : ℕ) → first_place is_free s.cells ≡ Some k → (cell_at s k).owner ≡ None
+free_at : (s : State) (k : ℕ) → position is_free s.cells ≡ Some k → (cell_at s k).owner ≡ None
 free_at s k h = unowned (cell_at s k).owner (passes_at is_free s.cells k (place_some is_free s.cells k h))
 
 -- the pending fetches at hand, where one cell changes
@@ -80,7 +80,7 @@ module _ (m : Meaning) (s : State) (n : Name) (i : Interval) (a : Agrees m s) wh
       cond_both (is_name n.bytes) _ _ Begins
       (λ name. cond_both (within i era) _ _ Begins
       (λ in_era. cond_both (within i m.span) _ _ Begins
-      (λ inside. by_option (place_of s n) (λ o. Begins (begun s n i o)) (λ _. reserves (first_place is_free s.cells) (record { name = name; in_era = in_era; inside = inside })) (λ k h. marks k h (record { name = name; in_era = in_era; inside = inside }) (cell_at s k).pending))
+      (λ inside. by_option (place_of s n) (λ o. Begins (begun s n i o)) (λ _. reserves (position is_free s.cells) (record { name = name; in_era = in_era; inside = inside })) (λ k h. marks k h (record { name = name; in_era = in_era; inside = inside }) (cell_at s k).pending))
       (λ _. inl (3, [], refl)))
       (λ _. inl (2, [], refl)))
       (λ _. inl (1, [], refl))
@@ -123,7 +123,7 @@ collect_by_place m s n k i h p = ap (collect_place m s n) h ∙ ap (collect_pend
 pub asked_by_place : {S : Type 0} (g : Ghosts S) (s : State) (n : Name) (k : ℕ) (i : Interval) (before after : S) → place_of s n ≡ Some k → (cell_at s k).pending ≡ Some i → Asked g s k i before after → Collects (source g) s n (place_of s n) before after
 asked_by_place g s n k i before after h p a =
     let test : is_pending (cell_at s k).pending i ≡ true = ap (λ o. is_pending o i) p ∙ pending_same i in
-    let asked = subst (λ (o : Option Name). AskedBy g o (cell_at s k).copy i before after) (owned_at s n k h) (when_true _ _ test a) in
+    let asked = subst (λ (o : Option Request). MatchOption o (after ≡ before) (λ q. g.after_fetch before q after)) (request_is (cell_at s k) i n test (owned_at s n k h)) a in
     subst (λ (o : Option ℕ). Collects (source g) s n o before after) (sym h) (subst (λ (o : Option Interval). Asks (source g) n (cell_at s k).copy o before after) (sym p) asked)
 
 -- an abandon by the zone is the abandon of its slot

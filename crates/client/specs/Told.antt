@@ -1,13 +1,13 @@
 -- What the client's calls return, as reports of the rules. Assumes nothing.
-use Rattle.std.specs.Prelude.{◌≡◌, ℕ, false, cond, [], Some, None, Ok, Err, Option, Result}
-use Rattle.names.specs.declared.name.Name.{Name}
+use Rattle.std.specs.Prelude.{◌≡◌, ℕ, false, [], Some, None, Ok, Err, Option, Result}
 use Rattle.zone.specs.declared.refusals.Refusal.{Refusal}
 use Rattle.zone.specs.declared.rows.Interval.{Interval}
 use Rattle.zone.specs.Refusals.{number, values}
+use Rattle.provider.specs.declared.requests.Request.{Request}
 use Rattle.provider.specs.Meaning.{Meaning}
 use Rattle.history.specs.Cells.{State, cell_at}
 use Rattle.history.specs.Steps.{Report, began, collected, abandoned, declined, handed_back, Step, stays, collected_at}
-use Rattle.slots.specs.Told.{is_pending}
+use Rattle.slots.specs.Told.{request_for}
 use Rattle.client.specs.declared.pending.PendingFetch.{PendingFetch}
 
 -- a begin answers an unspent pending fetch
@@ -28,14 +28,19 @@ abbrev pub HandsBack : {X : Type 0} → PendingFetch → Result X (Refusal × Pe
 HandsBack p (Ok x) = Unit {0}
 HandsBack p (Err r) = r.1 ≡ p
 
+-- a fetch is settled, or handed back
+abbrev pub settled_with : {X : Type 0} → PendingFetch → Result X Refusal → Result X (Refusal × PendingFetch)
+settled_with p (Ok x) = Ok x
+settled_with p (Err r) = Err (r, p)
+
 abbrev pub abandon_report : Result (Unit {0}) (Refusal × PendingFetch) → Report
 abandon_report (Ok done) = abandoned
 abandon_report (Err r) = handed_back (number r.0) (values r.0) r.1.slot r.1.interval
 
--- a pending fetch is collected or abandoned: 10 where its slot is not pending with its interval
-abbrev pub collect_owner : Meaning → State → ℕ → Interval → Option Name → Step
-collect_owner m s k i None = stays s (handed_back 10 [] k i)
-collect_owner m s k i (Some n) = collected_at s k i (m.turn n i) (m.pages (m.turn n i) n)
+-- a pending fetch is collected: 10 where its slot has no request
+abbrev pub collect_request : Meaning → State → ℕ → Interval → Option Request → Step
+collect_request m s k i None = stays s (handed_back 10 [] k i)
+collect_request m s k i (Some q) = collected_at s k i (m.turn q.name i) (m.pages (m.turn q.name i) q.name)
 
 abbrev pub collect_token : Meaning → State → ℕ → Interval → Step
-collect_token m s k i = cond (is_pending (cell_at s k).pending i) (collect_owner m s k i (cell_at s k).owner) (stays s (handed_back 10 [] k i))
+collect_token m s k i = collect_request m s k i (request_for (cell_at s k) i)

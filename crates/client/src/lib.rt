@@ -3,9 +3,11 @@
 
 pub mod calls;
 pub mod clients;
+mod items;
 pub mod listing;
 pub mod pending;
 mod performing;
 pub mod posting;
 pub mod replays;
 mod sessions;
+mod tokens;

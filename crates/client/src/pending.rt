@@ -1,6 +1,8 @@
 // The pending fetch.
 ghost use Rattle.std.specs.Prelude.{◌≡◌, true};
+ghost use Rattle.client.specs.Told.{settled_with};
 
+use zone::refusals::Refusal;
 use zone::rows::Interval;
 
 /// A fetch that was begun: the number of its slot and its interval. It must end in a collect that is accepted or in an abandon; letting it fall is refused when the program is checked.
@@ -19,5 +21,28 @@ impl Drop for PendingFetch {
             interval: _,
             spent: _,
         } = self;
+    }
+}
+
+impl PendingFetch {
+    // Ends the fetch where it was settled; a refusal hands it back.
+    pub(crate) fn settle<T>(
+        mut self,
+        settled: Result<T, Refusal>,
+    ) -> Result<T, (Refusal, PendingFetch)>
+        ensures { result ≡ settled_with self settled }
+    {
+        match settled {
+            Ok(value) => {
+                self.spent = true;
+                Ok(value)
+            }
+            Err(refusal) => Err((refusal, self)),
+        }
+    }
+
+    // Ends a pending fetch that no client waits for.
+    pub(crate) fn end(mut self) {
+        self.spent = true;
     }
 }

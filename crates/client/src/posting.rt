@@ -3,8 +3,7 @@ ghost use Rattle.std.specs.Prelude.{◌≡◌, IfOk};
 ghost use Rattle.provider.specs.Publishing.{Published};
 ghost use Rattle.provider.specs.Whole.{meaning};
 ghost use Rattle.history.specs.Cells.{new_client};
-ghost use Rattle.client.specs.Following.{ClientInOrder};
-ghost use Rattle.slots.specs.Seeing.{state_of};
+ghost use Rattle.client.specs.Following.{InOrder, state_in};
 
 use super::clients::Client;
 use names::name::Name;
@@ -21,23 +20,15 @@ impl<P: Provider> Client<P> {
     pub fn new(heap: Global, provider: P) -> Result<Client<P>, AllocError>
     where
         P: Drop,
-        ensures { IfOk result (λ c. (c.provider ≡ provider) × (state_of c.slots c.floor ≡ new_client) × (P.Provider.in_order provider → ClientInOrder P.Provider c.provider (state_of c.slots c.floor))) }
+        ensures { IfOk result (λ c. (c.provider ≡ provider) × (state_in c ≡ new_client) × (P.Provider.in_order provider → InOrder P.Provider c)) }
     {
-        let slots = Slots::new(heap)?;
+        let slots = Slots::new(heap, 0)?;
         let spare = Window::new(heap)?;
-        Ok(Client::start(provider, slots, spare))
-    }
-
-    // A client that has accepted nothing yet.
-    fn start(provider: P, slots: Slots, spare: Window) -> Client<P>
-        ensures { (result.provider ≡ provider) × (result.slots ≡ slots) × (result.floor ≡ 0) }
-    {
-        Client {
+        Ok(Client {
             provider,
             slots,
             spare,
-            floor: 0,
-        }
+        })
     }
 
     /// The provider, as the calls left it.
@@ -48,7 +39,6 @@ impl<P: Provider> Client<P> {
             provider,
             slots: _,
             spare: _,
-            floor: _,
         } = self;
         provider
     }
@@ -59,8 +49,8 @@ impl<P: Publishing> Client<P> {
     pub fn publish(&mut self, name: Name, table: &Table) -> Result<Edition, Refusal>
         ensures after { P.Publishing.after_publish self.old.provider name table.now self.new.provider }
         ensures told { P.Provider.in_order self.old.provider → Published (meaning P.Provider self.old.provider) (meaning P.Provider self.new.provider) (P.Provider.in_order self.new.provider) (P.Publishing.fits self.old.provider) name table.now self.old.provider self.new.provider result }
-        ensures held { state_of self.new.slots self.new.floor ≡ state_of self.old.slots self.old.floor }
-        ensures order { ClientInOrder P.Provider self.old.provider (state_of self.old.slots self.old.floor) → ClientInOrder P.Provider self.new.provider (state_of self.new.slots self.new.floor) }
+        ensures held { state_in self.new ≡ state_in self.old }
+        ensures order { InOrder P.Provider self.old → InOrder P.Provider self.new }
     {
         self.provider.publish(name, table)
     }

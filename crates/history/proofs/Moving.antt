@@ -1,9 +1,8 @@
 -- What each call does to the cell of its zone, by the rules. Assumes nothing.
-use Rattle.std.proofs.Common.{◌≡◌, ℕ, ◌≤◌, Bool, false, eqb, ltb, leb, List, [], ◌∷◌, length, ℤ, Some, None, sym, refl, ap, ◌∙◌, subst, arith}
+use Rattle.std.proofs.Common.{◌≡◌, ℕ, ◌≤◌, Bool, false, eqb, ltb, leb, List, [], ◌∷◌, length, position, ℤ, Some, None, sym, refl, ap, ◌∙◌, subst, arith}
 use Rattle.std.specs.Option.{option_map}
 use Rattle.std.proofs.lemmas.Bool.{cond_both, ltb-false}
 use Rattle.names.specs.declared.name.Name.{Name}
-use Rattle.names.specs.Finding.{first_place}
 use Rattle.names.proofs.Ordered.{same_name_self}
 use Rattle.zone.specs.declared.rows.Interval.{Interval}
 use Rattle.zone.specs.Intervals.{era, has_instant, within}
@@ -54,9 +53,9 @@ module _ (m : Meaning) (s : State) (n : Name) (apart : Apart s.cells) (good : Go
         }
 
     reserves : Lacks (owned_by n) s.cells → mine ≡ free → Settles (begun s n i None)
-    reserves lacks none = by_option (first_place is_free s.cells) (λ o. Settles (reserved s n i o)) (λ e. declines 9 []) go
+    reserves lacks none = by_option (position is_free s.cells) (λ o. Settles (reserved s n i o)) (λ e. declines 9 []) go
       where
-        go : (k : ℕ) → first_place is_free s.cells ≡ Some k → Settles (reserved s n i (Some k))
+        go : (k : ℕ) → position is_free s.cells ≡ Some k → Settles (reserved s n i (Some k))
         go k e = record {
           cell = record { owner = Some n; copy = None; pending = Some i };
           put = put_first s.cells n k _ apart (place_some is_free s.cells k e) lacks (same_name_self n);

@@ -1,9 +1,10 @@
 -- The cell of a zone among the cells, and what a change of one cell leaves of the others. Assumes nothing.
-use Rattle.std.proofs.Common.{◌≡◌, ℕ, zero, suc, Bool, true, false, cond, List, [], ◌∷◌, get_or, set, replicate, Some, None, Option, refl, ap, ◌∙◌, subst, arith}
-use Rattle.std.specs.Option.{option_map}
+use Rattle.std.proofs.Common.{◌≡◌, ℕ, zero, suc, ◌+◌, ◌<◌, Bool, true, false, cond, List, [], ◌∷◌, length, position, get_or, set, replicate, Some, None, Option, sym, refl, ap, ◌∙◌, subst, arith}
+use Rattle.std.proofs.lemmas.Iterator.Adapters.{position_from-zero}
+use Rattle.std.proofs.lemmas.List.Quantifiers.{position-Some}
+use Rattle.std.specs.List.{position_from}
 use Rattle.names.specs.declared.name.Name.{Name}
 use Rattle.names.specs.Comparing.{same_name}
-use Rattle.names.specs.Finding.{first_place}
 use Rattle.names.proofs.Ordered.{same_name_is}
 use Rattle.history.specs.Cells.{Cell, State, free, is_owner, owned_by, has_no_owner, is_free, place_of, cell_at}
 
@@ -41,23 +42,24 @@ At p (c ∷ cs) zero = p c ≡ true
 At p (c ∷ cs) (suc k) = (p c ≡ false) × At p cs k
 
 -- the place that a search answers
-pub place_some : (p : Cell → Bool) (cs : List Cell) (k : ℕ) → first_place p cs ≡ Some k → At p cs k
-place_some p [] k e = clash (cc)
-place_some p (c ∷ cs) k e = here (p c) refl (first_place p cs) refl (λ j. place_some p cs j) e
-  where
-    here : (b : Bool) → p c ≡ b → (o : Option ℕ) → first_place p cs ≡ o → ((j : ℕ) → first_place p cs ≡ Some j → At p cs j) → cond b (Some 0) (option_map suc o) ≡ Some k → At p (c ∷ cs) k
-    here true t o q more e = let z : 0 ≡ k = cc in subst (At p (c ∷ cs)) z t
-    here false t None q more e = clash (cc)
-    here false t (Some j) q more e = let z : suc j ≡ k = cc in subst (At p (c ∷ cs)) z (t, more j q)
+at_first : (p : Cell → Bool) (cs : List Cell) (k : ℕ) → k < length cs → p (get_or cs k free) ≡ true → ((j : ℕ) → j < k → p (get_or cs j free) ≡ false) → At p cs k
+at_first p [] k l t before = absurd (omega arith)
+at_first p (c ∷ cs) zero l t before = t
+at_first p (c ∷ cs) (suc k) l t before = (before 0 (omega arith), at_first p cs k (omega arith) t (λ j m. before (suc j) (omega arith)))
 
-pub place_none : (p : Cell → Bool) (cs : List Cell) → first_place p cs ≡ None → Lacks p cs
-place_none p [] e = tt
-place_none p (c ∷ cs) e = here (p c) refl (first_place p cs) refl (place_none p cs) e
+pub place_some : (p : Cell → Bool) (cs : List Cell) (k : ℕ) → position p cs ≡ Some k → At p cs k
+place_some p cs k e = let h = position-Some p cs k free e in at_first p cs k h.0 h.1 h.2
+
+none_from : (p : Cell → Bool) (i : ℕ) (cs : List Cell) → position_from p i cs ≡ None → Lacks p cs
+none_from p i [] e = tt
+none_from p i (c ∷ cs) e = here (p c) refl e (none_from p (i + 1) cs)
   where
-    here : (b : Bool) → p c ≡ b → (o : Option ℕ) → first_place p cs ≡ o → (first_place p cs ≡ None → Lacks p cs) → cond b (Some 0) (option_map suc o) ≡ None → Lacks p (c ∷ cs)
-    here true t o q more e = clash (cc)
-    here false t None q more e = (t, more q)
-    here false t (Some j) q more e = clash (cc)
+    here : (b : Bool) → p c ≡ b → cond b (Some i) (position_from p (i + 1) cs) ≡ None → (position_from p (i + 1) cs ≡ None → Lacks p cs) → Lacks p (c ∷ cs)
+    here true t e more = clash (cc)
+    here false t e more = (t, more e)
+
+pub place_none : (p : Cell → Bool) (cs : List Cell) → position p cs ≡ None → Lacks p cs
+place_none p cs e = none_from p 0 cs (sym (position_from-zero p cs) ∙ e)
 
 pub found_at : (p : Cell → Bool) (cs : List Cell) (k : ℕ) → At p cs k → get_or cs k free ≡ found p cs
 found_at p [] k h = absurd h

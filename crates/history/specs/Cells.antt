@@ -1,8 +1,7 @@
 -- The client as its rules see it: sixteen cells and a floor. Assumes nothing.
-use Rattle.std.specs.Prelude.{ℕ, Bool, true, false, List, replicate, Some, None, Option, slice_index_or, slice_set}
+use Rattle.std.specs.Prelude.{ℕ, Bool, true, false, List, replicate, position, Some, None, Option, slice_index_or, slice_set}
 use Rattle.names.specs.declared.name.Name.{Name}
 use Rattle.names.specs.Comparing.{same_name}
-use Rattle.names.specs.Finding.{first_place}
 use Rattle.zone.specs.declared.rows.Interval.{Interval}
 use Rattle.zone.specs.declared.rows.Row.{Row}
 
@@ -47,7 +46,7 @@ is_free c = has_no_owner c.owner
 
 -- the place of the zone's cell
 abbrev pub place_of : State → Name → Option ℕ
-place_of s n = first_place (owned_by n) s.cells
+place_of s n = position (owned_by n) s.cells
 
 abbrev pub cell_at : State → ℕ → Cell
 cell_at s k = slice_index_or s.cells k free

@@ -1,7 +1,6 @@
 -- What each call comes to, by the state of the client and what the provider means: the rules of the client. Assumes nothing.
-use Rattle.std.specs.Prelude.{ℕ, Bool, cond, List, [], ◌∷◌, length, ℤ, Some, None, Option, ◌==◌, nat_le, nat_lt, slice_set}
+use Rattle.std.specs.Prelude.{ℕ, Bool, cond, List, [], ◌∷◌, length, position, ℤ, Some, None, Option, ◌==◌, nat_le, nat_lt, slice_set}
 use Rattle.names.specs.declared.name.Name.{Name}
-use Rattle.names.specs.Finding.{first_place}
 use Rattle.zone.specs.declared.rows.Interval.{Interval}
 use Rattle.zone.specs.declared.windows.Table.{Table}
 use Rattle.zone.specs.Intervals.{has_instant, within}
@@ -59,7 +58,7 @@ reserved s n i None = refused 9 []
 reserved s n i (Some k) = answered (record { report = began k i; state = with_cell s k (record { owner = Some n; copy = None; pending = Some i }) })
 
 abbrev pub begun : State → Name → Interval → Option ℕ → Outcome Step
-begun s n i None = reserved s n i (first_place is_free s.cells)
+begun s n i None = reserved s n i (position is_free s.cells)
 begun s n i (Some k) = marked s k i (cell_at s k) (cell_at s k).pending
 
 abbrev pub begin_step : Meaning → State → Name → Interval → Step

@@ -1,3 +1,4 @@
 pub mod Seeing
 pub mod Told
 pub mod Taking
+pub mod Turning

@@ -1,5 +1,5 @@
 -- What a reply to a slot's fetch does to the client, whatever the provider replied. Assumes nothing.
-use Rattle.std.specs.Prelude.{ℕ, Bool, false, cond, [], ◌∷◌, Some, None, Ok, Err, vec_items, Option, Result, nat_lt, slice_set}
+use Rattle.std.specs.Prelude.{ℕ, Bool, false, if◌then◌else◌, [], ◌∷◌, Some, None, Ok, Err, Option, Result, nat_lt, slice_set}
 use Rattle.zone.specs.declared.refusals.Refusal.{Refusal}
 use Rattle.zone.specs.declared.refusals.Refusal.TheVariants.{BadName, BadInterval, OutsideSpan, Silent, NoPage, TooManyRows, BelowFloor, AlreadyPending, NoFreeSlot, NotPending, NotHeld, OutsideWindow, NotATable, DoesNotFit, BadText, BufferTooShort}
 use Rattle.zone.specs.declared.rows.Interval.{Interval}
@@ -25,7 +25,7 @@ renewed i e c = record { edition = e; tag = c.tag; interval = i; rows = cut c.ro
 -- a cell with its copy renewed, where that contains the interval
 abbrev pub renewal : Interval → ℕ → Cell → Option Copy → Cell
 renewal i e cell None = cell
-renewal i e cell (Some c) = cond (within i c.interval) (record { owner = cell.owner; copy = Some (renewed i e c); pending = None }) cell
+renewal i e cell (Some c) = if within i c.interval then record { owner = cell.owner; copy = Some (renewed i e c); pending = None } else cell
 
 -- a refusal of an edition below the floor is refused for that
 abbrev pub floored : ℕ → Refusal → Refusal
@@ -33,8 +33,8 @@ floored f BadName = BadName
 floored f BadInterval = BadInterval
 floored f OutsideSpan = OutsideSpan
 floored f Silent = Silent
-floored f (NoPage e) = cond (nat_lt e f) (BelowFloor e) (NoPage e)
-floored f (TooManyRows e) = cond (nat_lt e f) (BelowFloor e) (TooManyRows e)
+floored f (NoPage e) = if nat_lt e f then BelowFloor e else NoPage e
+floored f (TooManyRows e) = if nat_lt e f then BelowFloor e else TooManyRows e
 floored f (BelowFloor e) = BelowFloor e
 floored f AlreadyPending = AlreadyPending
 floored f NoFreeSlot = NoFreeSlot
@@ -52,16 +52,16 @@ holds s k e cell = record { report = collected e; state = record { cells = slice
 
 -- an unchanged answer: the copy is renewed; where there is none to renew, no answer came
 abbrev pub take_unchanged : State → ℕ → Interval → ℕ → Step
-take_unchanged s k i e = cond (can_renew i (cell_at s k).copy) (holds s k e (renewal i e (cell_at s k) (cell_at s k).copy)) (stays s (handed_back 4 [] k i))
+take_unchanged s k i e = if can_renew i (cell_at s k).copy then holds s k e (renewal i e (cell_at s k) (cell_at s k).copy) else stays s (handed_back 4 [] k i)
 
 -- a fresh one: the window is the copy
 abbrev pub take_fresh : State → ℕ → ℕ → ℕ → Window → Step
-take_fresh s k e g w = holds s k e (record { owner = (cell_at s k).owner; copy = Some (record { edition = e; tag = g; interval = w.interval; rows = vec_items w.rows }); pending = None })
+take_fresh s k e g w = holds s k e (record { owner = (cell_at s k).owner; copy = Some (record { edition = e; tag = g; interval = w.interval; rows = w.rows.items }); pending = None })
 
 -- 7 for an edition below the floor
 abbrev pub take_reply : State → ℕ → Interval → Result Reply Refusal → Window → Step
-take_reply s k i (Ok (Unchanged e)) w = cond (nat_lt e s.floor) (stays s (handed_back 7 (e ∷ []) k i)) (take_unchanged s k i e)
-take_reply s k i (Ok (Fresh e g)) w = cond (nat_lt e s.floor) (stays s (handed_back 7 (e ∷ []) k i)) (take_fresh s k e g w)
+take_reply s k i (Ok (Unchanged e)) w = if nat_lt e s.floor then stays s (handed_back 7 (e ∷ []) k i) else take_unchanged s k i e
+take_reply s k i (Ok (Fresh e g)) w = if nat_lt e s.floor then stays s (handed_back 7 (e ∷ []) k i) else take_fresh s k e g w
 take_reply s k i (Err r) w = stays s (handed_back (number (floored s.floor r)) (values (floored s.floor r)) k i)
 
 -- what came of it, by the slot and interval of the pending fetch
@@ -71,4 +71,4 @@ taken_report (Err r) k i = handed_back (number r) (values r) k i
 
 -- the step by the reply, where the slot is pending with the interval, else 10
 abbrev pub received : State → ℕ → Interval → Result Reply Refusal → Window → Step
-received s k i r w = cond (is_pending (cell_at s k).pending i) (take_reply s k i r w) (stays s (handed_back 10 [] k i))
+received s k i r w = if is_pending (cell_at s k).pending i then take_reply s k i r w else stays s (handed_back 10 [] k i)

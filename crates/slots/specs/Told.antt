@@ -1,9 +1,9 @@
 -- What the calls of the slots return, as reports of the rules. Assumes nothing.
-use Rattle.std.specs.Prelude.{◌≡◌, ℕ, Bool, false, cond, [], Some, None, Ok, Err, Option, Result}
+use Rattle.std.specs.Prelude.{◌≡◌, ℕ, Bool, false, if◌then◌else◌, [], Some, None, Ok, Err, Option, Result}
 use Rattle.names.specs.declared.name.Name.{Name}
 use Rattle.zone.specs.declared.refusals.Refusal.{Refusal}
 use Rattle.zone.specs.declared.rows.Interval.{Interval}
-use Rattle.zone.specs.Intervals.{same_interval}
+use Rattle.zone.specs.Intervals.{same_interval, within}
 use Rattle.zone.specs.Refusals.{Outcome, answered, refused, number, values}
 use Rattle.provider.specs.declared.requests.Request.{Request}
 use Rattle.history.specs.Cells.{Copy, Cell, State, cell_at}
@@ -24,7 +24,7 @@ is_pending None i = false
 is_pending (Some j) i = same_interval j i
 
 abbrev pub abandon_token : State → ℕ → Interval → Step
-abandon_token s k i = cond (is_pending (cell_at s k).pending i) (abandon_pending s k (Some i)) (stays s (handed_back 10 [] k i))
+abandon_token s k i = if is_pending (cell_at s k).pending i then abandon_pending s k (Some i) else stays s (handed_back 10 [] k i)
 
 -- the step of the rules comes to this report, and leaves the client in this state
 abbrev pub ComesTo : Step → Report → State → Type 0
@@ -45,6 +45,11 @@ abbrev pub token_report : Result (Unit {0}) Refusal → ℕ → Interval → Rep
 token_report (Ok done) k i = abandoned
 token_report (Err r) k i = handed_back (number r) (values r) k i
 
+-- the copy, if it contains the interval
+abbrev pub covering : Option Copy → Interval → Option Copy
+covering None i = None
+covering (Some c) i = if within i c.interval then Some c else None
+
 -- the request for what the owner of a slot has pending: with the tag of the copy, if that contains the interval
 abbrev pub request_of : Option Name → Option Copy → Interval → Option Request
 request_of None copy i = None
@@ -52,4 +57,4 @@ request_of (Some n) copy i = Some (record { name = n; interval = i; known = know
 
 -- the request that a collect sends for a slot: none where the slot is not pending with the interval
 abbrev pub request_for : Cell → Interval → Option Request
-request_for c i = cond (is_pending c.pending i) (request_of c.owner c.copy i) None
+request_for c i = if is_pending c.pending i then request_of c.owner c.copy i else None

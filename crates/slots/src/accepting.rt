@@ -1,15 +1,16 @@
-// What a collect does to a slot.
-ghost use Rattle.std.specs.Prelude.{◌≡◌, ℕ, ◌<◌, true, false, get_or, Ok, slice_index_or, slice_set};
-ghost use Rattle.provider.specs.declared.requests.Reply.TheVariants.{Fresh, Unchanged};
+// What a collect or an abandon does to a slot.
+ghost use Rattle.std.specs.Prelude.{◌≡◌, if◌then◌else◌, Some, None, slice_index_or};
 ghost use Rattle.history.specs.Cells.{free};
-ghost use Rattle.history.specs.Steps.{known_tag};
-ghost use Rattle.slots.specs.Seeing.{cell_of, cells_of, state_of};
-ghost use Rattle.slots.specs.Taking.{can_renew, floored, received, renewal, take_reply, taken_report};
-ghost use Rattle.slots.specs.Told.{abandon_token, ComesTo, is_pending, request_for, token_report};
+ghost use Rattle.history.specs.Steps.{unmarked};
+ghost use Rattle.slots.specs.Seeing.{cell_of, copy_of, cells_of, state_of};
+ghost use Rattle.slots.specs.Taking.{can_renew, floored, received, renewal, taken_report};
+ghost use Rattle.slots.specs.Told.{abandon_token, ComesTo, covering, is_pending, request_for, token_report};
+ghost use Rattle.slots.specs.Turning.{Accepts, TurnsTo};
 
-use super::slot::{Slot, Slots, Version};
+use super::slot::{Slot, Slots};
+use super::table::SLOTS;
 use cutting::cuts::cut_window;
-use provider::requests::{Edition, Reply, Request, Tag};
+use provider::requests::{Edition, Reply, Request, Version};
 use zone::refusals::Refusal;
 use zone::rows::Interval;
 use zone::windows::Window;
@@ -19,77 +20,26 @@ impl Slot {
     fn is_pending(&self, interval: Interval) -> bool
         ensures { result ≡ is_pending (cell_of self.now).pending interval }
     {
-        match self.pending {
-            None => false,
-            Some(pending) => pending.is_same(interval),
-        }
+        self.pending.is_some_and(|pending| pending == interval)
     }
 
-    // The tag of what the slot holds, if that contains the interval, else 0.
-    fn known(&self, interval: Interval) -> Tag
-        ensures { result ≡ known_tag (cell_of self.now).copy interval }
+    // The version of what the slot holds, if that contains the interval.
+    fn held_over(&self, interval: Interval) -> Option<Version>
+        ensures { copy_of result self.now.window ≡ covering (cell_of self.now).copy interval }
     {
-        match self.held {
-            None => 0,
-            Some(version) => {
-                if interval.is_within(self.window.interval) {
-                    version.tag
-                } else {
-                    0
-                }
-            }
-        }
+        self.held
+            .filter(|_| interval.is_within(self.window.interval))
     }
 
-    // What the slot holds is still good: its cut to the interval becomes what it holds, from this edition. False, and nothing done, where it does not contain the interval.
-    fn renew(&mut self, interval: Interval, edition: Edition, spare: &mut Window) -> bool
-        ensures told { result ≡ can_renew interval (cell_of self.old).copy }
-        ensures after { cell_of self.new ≡ renewal interval edition (cell_of self.old) (cell_of self.old).copy }
+    // The request that a collect sends for the slot: none where it is not pending with the interval.
+    fn request(&self, interval: Interval) -> Option<Request>
+        ensures { result ≡ request_for (cell_of self.now) interval }
     {
-        let Some(version) = self.held else {
-            return false;
-        };
-        if !interval.is_within(self.window.interval) {
-            return false;
-        }
-        let _ = cut_window(&self.window, interval, spare);
-        std::mem::swap(&mut self.window, spare);
-        let tag = version.tag;
-        self.held = Some(Version { edition, tag });
-        self.pending = None;
-        true
-    }
-}
-
-impl Slots {
-    // Whether the slot at a place is pending with this interval.
-    fn is_pending(&self, i: usize, interval: Interval) -> bool
-        ensures told { result ≡ is_pending (get_or (cells_of self.now) i free).pending interval }
-        ensures within { result ≡ true → i < 16 }
-    {
-        if i >= 16 {
-            return false;
-        }
-        self.slots[i].is_pending(interval)
-    }
-
-    // The tag that a fetch for the slot sends.
-    fn known(&self, i: usize, interval: Interval) -> Tag
-        requires { i < 16 }
-        ensures { result ≡ known_tag (get_or (cells_of self.now) i free).copy interval }
-    {
-        self.slots[i].known(interval)
-    }
-
-    /// The request that a collect sends for the slot: none where the slot is not pending with the interval.
-    pub fn request(&self, i: usize, interval: Interval) -> Option<Request>
-        ensures { result ≡ request_for (slice_index_or (cells_of self.now) i free) interval }
-    {
-        if !self.is_pending(i, interval) {
+        if !self.is_pending(interval) {
             return None;
         }
-        let name = self.slots[i].owner?;
-        let known = self.known(i, interval);
+        let name = self.owner?;
+        let known = self.held_over(interval).map_or(0, |version| version.tag);
         Some(Request {
             name,
             interval,
@@ -97,91 +47,93 @@ impl Slots {
         })
     }
 
-    /// The mark goes, and a slot that was only reserved is free: 10 where the slot is not pending with the interval.
-    pub fn abandon(&mut self, i: usize, interval: Interval) -> Result<(), Refusal>
-        ensures { (floor : ℕ) → ComesTo (abandon_token (state_of self.old floor) i interval) (token_report result i interval) (state_of self.new floor) }
+    // The mark goes, and a slot that was only reserved is free: 10 where the slot is not pending with the interval.
+    fn abandon(&mut self, interval: Interval) -> Result<(), Refusal>
+        ensures { TurnsTo (λ s k. abandon_token s k interval) (λ k. token_report result k interval) (cell_of self.old) (cell_of self.new) }
     {
-        if !self.is_pending(i, interval) {
+        if !self.is_pending(interval) {
             return Err(Refusal::NotPending);
         }
-        self.unmark(i);
+        self.unmark();
         Ok(())
     }
 
-    // Renews what the slot at a place holds.
-    fn renew(&mut self, i: usize, interval: Interval, edition: Edition, spare: &mut Window) -> bool
-        requires { i < 16 }
-        ensures told { result ≡ can_renew interval (get_or (cells_of self.old) i free).copy }
-        ensures after { cells_of self.new ≡ slice_set (cells_of self.old) i (renewal interval edition (slice_index_or (cells_of self.old) i free) (get_or (cells_of self.old) i free).copy) }
-        ensures same { result ≡ false → cells_of self.new ≡ cells_of self.old }
+    // Removes the slot's mark, and frees it where it was only reserved.
+    pub(crate) fn unmark(&mut self)
+        ensures { cell_of self.new ≡ unmarked (cell_of self.old) (cell_of self.old).copy }
     {
-        self.slot_mut(i).renew(interval, edition, spare)
+        if self.held.is_none() {
+            self.owner = None;
+        }
+        self.pending = None;
     }
 
-    // The provider answered that what the slot holds is still good.
-    fn take_unchanged(
-        &mut self,
-        i: usize,
-        interval: Interval,
-        edition: Edition,
-        floor: &mut Edition,
-        spare: &mut Window,
-    ) -> Result<Edition, Refusal>
-        requires { i < 16 }
-        ensures { ComesTo (take_reply (state_of self.old floor.old) i interval (Ok (Unchanged edition)) spare.old) (taken_report result i interval) (state_of self.new floor.new) }
+    // What the slot holds is still good: its cut to the interval becomes what the slot holds, from this edition. None, and nothing done, where it does not contain the interval.
+    #[tactic(auto, using(provider::proofs::Pages::window_cut))]
+    fn renew(&mut self, interval: Interval, edition: Edition, spare: &mut Window) -> Option<Edition>
+        ensures told { result ≡ (if can_renew interval (cell_of self.old).copy then Some edition else None) }
+        ensures after { cell_of self.new ≡ renewal interval edition (cell_of self.old) (cell_of self.old).copy }
     {
-        if *floor > edition {
-            return Err(Refusal::BelowFloor { edition });
-        }
-        if !self.renew(i, interval, edition, spare) {
-            return Err(Refusal::Silent);
-        }
-        *floor = edition;
-        Ok(edition)
+        let held = self.held_over(interval)?;
+        cut_window(&self.window, interval, spare).unwrap();
+        self.install(Version { edition, ..held }, spare);
+        Some(edition)
     }
 
-    // The provider filled the window.
-    fn take_fresh(
-        &mut self,
-        i: usize,
-        interval: Interval,
-        version: Version,
-        floor: &mut Edition,
-        spare: &mut Window,
-    ) -> Result<Edition, Refusal>
-        requires { i < 16 }
-        ensures { ComesTo (take_reply (state_of self.old floor.old) i interval (Ok (Fresh version.edition version.tag)) spare.old) (taken_report result i interval) (state_of self.new floor.new) }
+    // Puts the window in the slot in the place of the slot's own, which it gets, under a version.
+    fn install(&mut self, version: Version, window: &mut Window)
+        ensures { cell_of self.new ≡ record { owner = (cell_of self.old).owner; copy = copy_of (Some version) window.old; pending = None } }
     {
-        let edition = version.edition;
-        if edition < *floor {
-            return Err(Refusal::BelowFloor { edition });
-        }
-        self.install(i, version, spare);
-        *floor = version.edition;
-        Ok(edition)
+        std::mem::swap(&mut self.window, window);
+        self.held = Some(version);
+        self.pending = None;
     }
 
-    // What the provider replied to the fetch of a slot that is pending.
-    fn take(
+    // What the provider replied to the slot's request, with what it left in the window: the edition that the slot holds from now on, not below the floor. 10 where the slot is not pending with the interval.
+    fn receive(
         &mut self,
-        i: usize,
         interval: Interval,
         reply: Result<Reply, Refusal>,
-        floor: &mut Edition,
+        floor: Edition,
         spare: &mut Window,
     ) -> Result<Edition, Refusal>
-        requires { i < 16 }
-        ensures { ComesTo (take_reply (state_of self.old floor.old) i interval reply spare.old) (taken_report result i interval) (state_of self.new floor.new) }
+        ensures { Accepts (λ s k. received s k interval reply spare.old) result interval floor (cell_of self.old) (cell_of self.new) }
     {
+        if !self.is_pending(interval) {
+            return Err(Refusal::NotPending);
+        }
         match reply {
-            Err(refusal) => Err(floored_by(*floor, refusal)),
-            Ok(Reply::Unchanged { edition }) => self.take_unchanged(
-                i, interval, edition, floor, spare,
-            ),
+            Err(refusal) => Err(floored_by(floor, refusal)),
+            Ok(Reply::Unchanged { edition } | Reply::Fresh { edition, .. }) if edition < floor => {
+                Err(Refusal::BelowFloor { edition })
+            }
+            Ok(Reply::Unchanged { edition }) => {
+                self.renew(interval, edition, spare).ok_or(Refusal::Silent)
+            }
             Ok(Reply::Fresh { edition, tag }) => {
-                self.take_fresh(i, interval, Version { edition, tag }, floor, spare)
+                self.install(Version { edition, tag }, spare);
+                Ok(edition)
             }
         }
+    }
+}
+
+impl Slots {
+    /// The request that a collect sends for the slot: none where the slot is not pending with the interval.
+    pub fn request(&self, i: usize, interval: Interval) -> Option<Request>
+        ensures { result ≡ request_for (slice_index_or (cells_of self.now) i free) interval }
+    {
+        self.slots.get(i)?.request(interval)
+    }
+
+    /// The mark goes, and a slot that was only reserved is free: 10 where the slot is not pending with the interval.
+    pub fn abandon(&mut self, i: usize, interval: Interval) -> Result<(), Refusal>
+        ensures { ComesTo (abandon_token (state_of self.old) i interval) (token_report result i interval) (state_of self.new) }
+    {
+        if i >= SLOTS {
+            return Err(Refusal::NotPending);
+        }
+        self.slot_mut(i).abandon(interval)
     }
 
     /// What the provider replied to the slot's request, with what it left in the spare window: a window of an edition not below the floor is held from now on, and the floor is that edition. 10 where the slot is not pending with the interval.
@@ -190,15 +142,17 @@ impl Slots {
         i: usize,
         interval: Interval,
         reply: Result<Reply, Refusal>,
-        floor: &mut Edition,
         spare: &mut Window,
     ) -> Result<Edition, Refusal>
-        ensures { ComesTo (received (state_of self.old floor.old) i interval reply spare.old) (taken_report result i interval) (state_of self.new floor.new) }
+        ensures { ComesTo (received (state_of self.old) i interval reply spare.old) (taken_report result i interval) (state_of self.new) }
     {
-        if !self.is_pending(i, interval) {
+        if i >= SLOTS {
             return Err(Refusal::NotPending);
         }
-        self.take(i, interval, reply, floor, spare)
+        let floor = self.floor;
+        let edition = self.slot_mut(i).receive(interval, reply, floor, spare)?;
+        self.floor = edition;
+        Ok(edition)
     }
 }
 
@@ -207,8 +161,8 @@ fn floored_by(floor: Edition, refusal: Refusal) -> Refusal
     ensures { result ≡ floored floor refusal }
 {
     match refusal {
-        Refusal::NoPage { edition } if edition < floor => Refusal::BelowFloor { edition },
-        Refusal::TooManyRows { edition } if edition < floor => Refusal::BelowFloor { edition },
+        Refusal::NoPage { edition } | Refusal::TooManyRows { edition } if edition < floor =>
+            Refusal::BelowFloor { edition },
         _ => refusal,
     }
 }

@@ -1,9 +1,10 @@
-// The rules of the slots, which ask no provider.
-ghost use Rattle.std.specs.Prelude.{◌≡◌, ℕ, ◌<◌, IfOk, None};
-ghost use Rattle.history.specs.Steps.{begun, forget_step, queried_copy, query_step, settled};
-ghost use Rattle.history.specs.Cells.{State, place_of};
+// The rules of the slots that ask no provider.
+ghost use Rattle.std.specs.Prelude.{◌≡◌, ◌<◌, IfOk, Some, None};
+ghost use Rattle.history.specs.Cells.{free, State, place_of};
+ghost use Rattle.history.specs.Steps.{begun, forget_place, forget_step, queried_copy, query_step, settled};
 ghost use Rattle.slots.specs.Seeing.{cell_of, state_of};
 ghost use Rattle.slots.specs.Told.{answer_outcome, ComesTo, forget_report, query_report, slot_report};
+ghost use Rattle.slots.specs.Turning.{mark_report, marked_at, TurnsTo};
 
 use super::answers::Answer;
 use super::slot::{Slot, Slots};
@@ -13,20 +14,59 @@ use zone::refusals::Refusal;
 use zone::rows::{Instant, Interval};
 
 impl Slot {
+    // Marks the slot pending: 8 where it is already.
+    fn mark(&mut self, interval: Interval) -> Result<(), Refusal>
+        ensures { TurnsTo (λ s k. marked_at s k interval) (λ k. mark_report result k interval) (cell_of self.old) (cell_of self.new) }
+    {
+        if self.pending.is_some() {
+            return Err(Refusal::AlreadyPending);
+        }
+        self.pending = Some(interval);
+        Ok(())
+    }
+
+    // Reserves the slot for the zone's first fetch.
+    fn reserve(&mut self, name: Name, interval: Interval)
+        ensures { cell_of self.new ≡ record { owner = Some name; copy = None; pending = Some interval } }
+    {
+        self.owner = Some(name);
+        self.held = None;
+        self.pending = Some(interval);
+    }
+
+    // Frees the slot: 11 where it holds nothing, 8 while a fetch is pending.
+    fn forget(&mut self) -> Result<(), Refusal>
+        ensures { TurnsTo (λ s k. settled s (forget_place s (Some k))) (λ k. forget_report result) (cell_of self.old) (cell_of self.new) }
+    {
+        if self.held.is_none() {
+            return Err(Refusal::NotHeld);
+        }
+        if self.pending.is_some() {
+            return Err(Refusal::AlreadyPending);
+        }
+        self.release();
+        Ok(())
+    }
+
+    // Nobody owns the slot, it holds nothing, and nothing is pending.
+    pub(crate) fn release(&mut self)
+        ensures { cell_of self.new ≡ free }
+    {
+        self.owner = None;
+        self.held = None;
+        self.pending = None;
+    }
+
     // The local time by what the slot holds: 11 where it holds nothing, 12 outside of its window.
     fn query(&self, at: Instant) -> Result<Answer, Refusal>
         ensures { (s : State) → queried_copy s at.0 (cell_of self.now).copy ≡ answer_outcome result s }
     {
-        match self.held {
-            None => Err(Refusal::NotHeld),
-            Some(version) => match local_time(&self.window, at) {
-                Ok(local) => Ok(Answer {
-                    edition: version.edition,
-                    local,
-                }),
-                Err(refusal) => Err(refusal),
-            },
-        }
+        let version = self.held.ok_or(Refusal::NotHeld)?;
+        let local = local_time(&self.window, at)?;
+        Ok(Answer {
+            edition: version.edition,
+            local,
+        })
     }
 }
 
@@ -34,60 +74,44 @@ impl Slots {
     /// Marks the zone's slot pending, or reserves the first free one; answers its place.
     pub fn begin(&mut self, name: Name, interval: Interval) -> Result<usize, Refusal>
         ensures within { IfOk result (λ i. i < 16) }
-        ensures told { (floor : ℕ) → ComesTo (settled (state_of self.old floor) (begun (state_of self.old floor) name interval (place_of (state_of self.old floor) name))) (slot_report result interval) (state_of self.new floor) }
+        ensures told { ComesTo (settled (state_of self.old) (begun (state_of self.old) name interval (place_of (state_of self.old) name))) (slot_report result interval) (state_of self.new) }
     {
         let Some(i) = self.find(&name) else {
             return self.begin_new(name, interval);
         };
-        if self.is_marked(i) {
-            return Err(Refusal::AlreadyPending);
-        }
-        self.mark(i, interval);
+        self.slot_mut(i).mark(interval)?;
         Ok(i)
     }
 
-    // Reserves the first free slot.
+    // Reserves the first free slot: 9 where none is.
     fn begin_new(&mut self, name: Name, interval: Interval) -> Result<usize, Refusal>
         ensures within { IfOk result (λ i. i < 16) }
-        ensures told { (floor : ℕ) → ComesTo (settled (state_of self.old floor) (begun (state_of self.old floor) name interval None)) (slot_report result interval) (state_of self.new floor) }
+        ensures told { ComesTo (settled (state_of self.old) (begun (state_of self.old) name interval None)) (slot_report result interval) (state_of self.new) }
     {
-        let Some(i) = self.find_free() else {
-            return Err(Refusal::NoFreeSlot);
-        };
-        self.reserve(i, name, interval);
+        let i = self.find_free().ok_or(Refusal::NoFreeSlot)?;
+        self.slot_mut(i).reserve(name, interval);
         Ok(i)
     }
 
     /// Frees the zone's slot: 1 the name, 11 where it holds nothing, 8 while a fetch is pending.
     pub fn forget(&mut self, name: Name) -> Result<(), Refusal>
-        ensures { (floor : ℕ) → ComesTo (forget_step (state_of self.old floor) name) (forget_report result) (state_of self.new floor) }
+        ensures { ComesTo (forget_step (state_of self.old) name) (forget_report result) (state_of self.new) }
     {
         if !name.is_valid() {
             return Err(Refusal::BadName);
         }
-        let Some(i) = self.find(&name) else {
-            return Err(Refusal::NotHeld);
-        };
-        if !self.is_held(i) {
-            return Err(Refusal::NotHeld);
-        }
-        if self.is_marked(i) {
-            return Err(Refusal::AlreadyPending);
-        }
-        self.release(i);
-        Ok(())
+        let i = self.find(&name).ok_or(Refusal::NotHeld)?;
+        self.slot_mut(i).forget()
     }
 
     /// The local time by what the zone's slot holds: 1 the name, 11 where it holds nothing, 12 outside of its window.
     pub fn query(&self, name: Name, at: Instant) -> Result<Answer, Refusal>
-        ensures { (floor : ℕ) → ComesTo (query_step (state_of self.now floor) name at.0) (query_report result) (state_of self.now floor) }
+        ensures { ComesTo (query_step (state_of self.now) name at.0) (query_report result) (state_of self.now) }
     {
         if !name.is_valid() {
             return Err(Refusal::BadName);
         }
-        let Some(i) = self.find(&name) else {
-            return Err(Refusal::NotHeld);
-        };
+        let i = self.find(&name).ok_or(Refusal::NotHeld)?;
         self.slots[i].query(at)
     }
 }

@@ -3,7 +3,6 @@
 
 mod accepting;
 pub mod answers;
-mod changing;
 mod holding;
 pub mod slot;
-mod table;
+pub mod table;

@@ -2,16 +2,9 @@
 ghost use Rattle.std.specs.Prelude.{◌≡◌, vec_len};
 
 use names::name::Name;
-use provider::requests::{Edition, Tag};
+use provider::requests::{Edition, Version};
 use zone::rows::Interval;
 use zone::windows::Window;
-
-/// The edition and the tag of what a window holds.
-#[derive(Clone, Copy)]
-pub(crate) struct Version {
-    pub(crate) edition: Edition,
-    pub(crate) tag: Tag,
-}
 
 /// A slot: the zone that owns it, the version that its window holds, and the interval of the zone's pending fetch.
 #[derive(Drop)]
@@ -22,9 +15,10 @@ pub(crate) struct Slot {
     pub(crate) window: Window,
 }
 
-/// Sixteen slots.
+/// Sixteen slots, and the floor: the highest edition accepted so far. The slots are a vector, since of an array's element that is lent the check proves no clause.
 #[derive(Drop)]
 pub struct Slots {
     pub(crate) slots: Vec<Slot>,
+    pub floor: Edition,
     ghost all: { vec_len slots ≡ 16 },
 }

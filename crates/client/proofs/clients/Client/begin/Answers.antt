@@ -9,6 +9,7 @@ use Rattle.provider.proofs.Checks.{checked_answer, checked_next, checked_refused
 use Rattle.history.specs.Cells.{State, place_of}
 use Rattle.history.specs.Steps.{Report, Step, declined, settled, begun}
 use Rattle.slots.specs.Seeing.{state_of}
+use Rattle.client.specs.Following.{state_in}
 use Rattle.slots.specs.Told.{ComesTo}
 use Rattle.client.proofs.Ordered.{ordered, begin_agrees}
 use Rattle.client.proofs.clients.Client.begin.Goals as goal
@@ -28,7 +29,7 @@ returns-in_err-check g c =
     let p = err_from_is_err_and c.from_residual.result c.from_residual.ensures.1 in
     let self = c.args.self.now in
     let m = meaning g.P.Provider self.provider in
-    let s = state_of self.slots self.floor in
+    let s = state_in self in
     let t = declines s (record { name = c.args.name; interval = c.args.interval; known = 0 }) c.span.result m.span (begun s c.args.name c.args.interval (place_of s c.args.name)) _ _ c.span.ensures c.in_err-check.ensures in
     rw (p.1, p.2) (record { told = t; unspent = tt; within = tt; provider = refl; order = ordered g.P.Provider self.provider self.provider s s _ _ (begin_agrees m s c.args.name c.args.interval) t refl })
 
@@ -37,16 +38,16 @@ returns-in_err-slot g c =
     let p = err_from_is_err_and c.from_residual-in_err-slot.result c.from_residual-in_err-slot.ensures.1 in
     let self = c.args.self.now in
     let m = meaning g.P.Provider self.provider in
-    let s = state_of self.slots self.floor in
-    let s' = state_of c.begin.new.self self.floor in
-    let t = passes s s' (record { name = c.args.name; interval = c.args.interval; known = 0 }) c.span.result m.span (begun s c.args.name c.args.interval (place_of s c.args.name)) _ c.span.ensures c.in_ok-check.ensures (c.in_err-slot.ensures.told self.floor) in
+    let s = state_in self in
+    let s' = state_of c.begin.new.self in
+    let t = passes s s' (record { name = c.args.name; interval = c.args.interval; known = 0 }) c.span.result m.span (begun s c.args.name c.args.interval (place_of s c.args.name)) _ c.span.ensures c.in_ok-check.ensures (c.in_err-slot.ensures.told) in
     rw (p.1, p.2) (record { told = t; unspent = tt; within = tt; provider = refl; order = ordered g.P.Provider self.provider self.provider s s' _ _ (begin_agrees m s c.args.name c.args.interval) t refl })
 
 pub returns : goal.returns
 returns g c =
     let self = c.args.self.now in
     let m = meaning g.P.Provider self.provider in
-    let s = state_of self.slots self.floor in
-    let s' = state_of c.begin.new.self self.floor in
-    let t = passes s s' (record { name = c.args.name; interval = c.args.interval; known = 0 }) c.span.result m.span (begun s c.args.name c.args.interval (place_of s c.args.name)) _ c.span.ensures c.in_ok-check.ensures (c.in_ok-slot.ensures.told self.floor) in
+    let s = state_in self in
+    let s' = state_of c.begin.new.self in
+    let t = passes s s' (record { name = c.args.name; interval = c.args.interval; known = 0 }) c.span.result m.span (begun s c.args.name c.args.interval (place_of s c.args.name)) _ c.span.ensures c.in_ok-check.ensures (c.in_ok-slot.ensures.told) in
     record { told = t; unspent = refl; within = c.in_ok-slot.ensures.within; provider = refl; order = ordered g.P.Provider self.provider self.provider s s' _ _ (begin_agrees m s c.args.name c.args.interval) t refl }

@@ -1,4 +1,4 @@
-use Rattle.std.proofs.Common.{◌≡◌, ℕ, List, sym, ap, ◌∙◌, subst}
+use Rattle.std.proofs.Common.{◌≡◌, ℕ, List, refl, ap, ◌∙◌}
 use Rattle.provider.specs.Whole.{meaning}
 use Rattle.history.specs.Cells.{Cell, State, new_client}
 use Rattle.slots.specs.Seeing.{state_of}
@@ -7,8 +7,8 @@ use Rattle.client.proofs.clients.Client.new.Goals as goal
 
 pub returns : goal.returns
 returns g c =
-    let r = c.start.result in
-    let made = c.start.ensures in
+    let slots = c.in_ok-slots.slots in
+    let made = c.in_ok-slots.ensures in
     let state : List Cell → ℕ → State = λ cells floor. record { cells = cells; floor = floor } in
-    let new : state_of r.slots r.floor ≡ new_client = ap (λ x. state_of x r.floor) made.1 ∙ ap (λ f. state_of c.in_ok-slots.slots f) made.2 ∙ ap (λ cells. state cells 0) c.in_ok-slots.ensures in
-    (made.0, new, λ o. record { order = subst g.P.Provider.in_order (sym made.0) o; agrees = agrees_new (meaning g.P.Provider r.provider) (state_of r.slots r.floor) new })
+    let new : state_of slots ≡ new_client = ap (λ cells. state cells slots.floor) made.0 ∙ ap (state _) made.1 in
+    (refl, new, λ o. record { order = o; agrees = agrees_new (meaning g.P.Provider c.args.provider) (state_of slots) new })

@@ -1,6 +1,6 @@
 use Rattle.std.proofs.Common.{refl}
 use Rattle.provider.specs.Whole.{meaning}
-use Rattle.slots.specs.Seeing.{state_of}
+use Rattle.client.specs.Following.{state_in}
 use Rattle.client.proofs.Agreement.{agrees_keeps}
 use Rattle.client.proofs.Entries.{publish_keeps}
 use Rattle.client.proofs.clients.Client.publish.Goals as goal
@@ -16,5 +16,5 @@ returns g c =
       held = refl;
       order = λ o.
           let p = c.publish.ensures.told o.order in
-          record { order = p.order; agrees = agrees_keeps m m' (state_of self.slots self.floor) (g.met.P.Provider.sound self.provider o.order) (publish_keeps g.P.Provider g.P.Publishing self.provider c.publish.new.self c.args.name c.args.table.now c.publish.result p) o.agrees };
+          record { order = p.order; agrees = agrees_keeps m m' (state_in self) (g.met.P.Provider.sound self.provider o.order) (publish_keeps g.P.Provider g.P.Publishing self.provider c.publish.new.self c.args.name c.args.table.now c.publish.result p) o.agrees };
     }

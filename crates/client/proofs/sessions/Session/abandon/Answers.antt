@@ -1,24 +1,9 @@
-use Rattle.std.proofs.Common.{◌≡◌, length, get_or, Some, None, vec_items, sym, ◌∙◌, arith}
-use Rattle.std.proofs.lemmas.List.{get_or_read}
-use Rattle.slots.specs.Seeing.{state_of}
-use Rattle.client.proofs.Carried.{abandon_done, abandon_refused}
-use Rattle.slots.proofs.Finding.{cells_length}
+use Rattle.std.proofs.Common.{sym}
+use Rattle.client.proofs.Taken.{abandons, never_back}
 use Rattle.client.proofs.sessions.Session.abandon.Goals as goal
 
 pub returns-in-Ok : goal.returns-in-Ok
-returns-in-Ok g c o h =
-    let client = c.args.self.now.client in
-    let tokens = c.args.self.now.tokens in
-    let long : length (vec_items tokens) ≡ 16 = omega (arith, tokens.ok.0, c.args.self.now.all) in
-    let l = c.in-Some.ensures.within in
-    let here : Some c.in-Some-take.pending ≡ get_or (vec_items tokens) c.in-Some.slot None = sym c.in-Some-take.is ∙ c.take.ensures.value ∙ get_or_read (vec_items tokens) c.in-Some.slot c.index_mut.result.now (omega arith) c.index_mut.ensures.value None in
-    abandon_done g.P.Provider client.provider c.abandon.new.self.provider (state_of client.slots client.floor) (state_of c.abandon.new.self.slots c.abandon.new.self.floor) (vec_items tokens) c.args.name c.in-Some.slot c.in-Some-take.pending long (cells_length client.slots) l (sym c.in-Some.ensures.place) here o h c.take.new.self c.take.ensures.after c.in-Ok.ensures.told c.in-Ok.ensures.provider
+returns-in-Ok g c q = abandons g.P.Provider c.args.self.now c.take.new.self c.args.name c.in-Some.slot c.in-Some.pending c.in-Some.ensures.within (sym c.in-Some.ensures.taken) c.take.ensures.tokens c.take.ensures.client q c.abandon.new.self c.in-Ok.ensures.told c.in-Ok.ensures.provider
 
 pub returns-in-Err : goal.returns-in-Err
-returns-in-Err g c o h =
-    let client = c.args.self.now.client in
-    let tokens = c.args.self.now.tokens in
-    let long : length (vec_items tokens) ≡ 16 = omega (arith, tokens.ok.0, c.args.self.now.all) in
-    let l = c.in-Some.ensures.within in
-    let here : Some c.in-Some-take.pending ≡ get_or (vec_items tokens) c.in-Some.slot None = sym c.in-Some-take.is ∙ c.take.ensures.value ∙ get_or_read (vec_items tokens) c.in-Some.slot c.index_mut.result.now (omega arith) c.index_mut.ensures.value None in
-    abandon_refused g.P.Provider client.provider c.abandon.new.self.provider (state_of client.slots client.floor) (state_of c.abandon.new.self.slots c.abandon.new.self.floor) (vec_items tokens) c.args.name c.in-Some.slot c.in-Some-take.pending long (cells_length client.slots) l (sym c.in-Some.ensures.place) here o h _ _ _ _ c.in-Err.ensures.told
+returns-in-Err g c q = never_back g.P.Provider c.args.self.now c.take.new.self c.args.name c.in-Some.slot c.in-Some.pending c.in-Some.ensures.within (sym c.in-Some.ensures.taken) c.take.ensures.tokens c.take.ensures.client q c.abandon.new.self _ _ _ _ c.in-Err.ensures.told

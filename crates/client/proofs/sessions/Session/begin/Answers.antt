@@ -1,24 +1,12 @@
-use Rattle.std.proofs.Common.{vec_items, refl, arith}
-use Rattle.slots.specs.Seeing.{state_of}
-use Rattle.client.proofs.Carried.{begin_refused, begin_done}
-use Rattle.slots.proofs.Finding.{cells_length}
+use Rattle.client.specs.Following.{state_in}
+use Rattle.client.proofs.Carried.{begin_refused}
+use Rattle.client.proofs.Taken.{begins}
 use Rattle.client.proofs.sessions.Session.begin.Goals as goal
 
 pub returns-in-Err : goal.returns-in-Err
-returns-in-Err g c o h =
+returns-in-Err g c q =
     let client = c.args.self.now.client in
-    begin_refused g.P.Provider client.provider c.begin.new.self.provider (state_of client.slots client.floor) (state_of c.begin.new.self.slots c.begin.new.self.floor) (vec_items c.args.self.now.tokens) c.args.name c.args.interval _ _ c.in-Err.ensures.told c.in-Err.ensures.provider o h
+    begin_refused g.P.Provider client.provider c.begin.new.self.provider (state_in client) (state_in c.begin.new.self) c.args.self.now.tokens.items c.args.name c.args.interval _ _ c.in-Err.ensures.told c.in-Err.ensures.provider q.client q.tokens
 
-pub returns-in-Some : goal.returns-in-Some
-returns-in-Some g c o h =
-    let client = c.args.self.now.client in
-    let tokens = c.args.self.now.tokens in
-    let p = c.in-Ok.pending in
-    (begin_done g.P.Provider client.provider c.begin.new.self.provider (state_of client.slots client.floor) (state_of c.begin.new.self.slots c.begin.new.self.floor) (vec_items tokens) c.args.name c.args.interval p.slot p c.replace.new.self (omega (arith, tokens.ok.0, c.args.self.now.all)) (cells_length client.slots) c.in-Ok.ensures.within refl c.in-Ok.ensures.unspent c.replace.ensures.after c.in-Ok.ensures.told c.in-Ok.ensures.provider o h).1
-
-pub returns-in_default : goal.returns-in_default
-returns-in_default g c o h =
-    let client = c.args.self.now.client in
-    let tokens = c.args.self.now.tokens in
-    let p = c.in-Ok.pending in
-    (begin_done g.P.Provider client.provider c.begin.new.self.provider (state_of client.slots client.floor) (state_of c.begin.new.self.slots c.begin.new.self.floor) (vec_items tokens) c.args.name c.args.interval p.slot p c.replace.new.self (omega (arith, tokens.ok.0, c.args.self.now.all)) (cells_length client.slots) c.in-Ok.ensures.within refl c.in-Ok.ensures.unspent c.replace.ensures.after c.in-Ok.ensures.told c.in-Ok.ensures.provider o h).1
+pub returns-in-Ok : goal.returns-in-Ok
+returns-in-Ok g c = begins g.P.Provider c.args.self.now c.keep.new.self c.args.name c.args.interval c.in-Ok.pending c.begin.new.self c.in-Ok.ensures.within c.in-Ok.ensures.unspent c.in-Ok.ensures.told c.in-Ok.ensures.provider c.keep.ensures.client c.keep.ensures.tokens

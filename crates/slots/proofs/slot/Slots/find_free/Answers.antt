@@ -1,21 +1,12 @@
-use Rattle.std.proofs.Common.{sym, arith, below_more}
-use Rattle.names.proofs.Finding.{first_found, first_none}
-use Rattle.history.specs.Cells.{free, is_free}
-use Rattle.slots.specs.Seeing.{cells_of}
-use Rattle.slots.proofs.Finding.{tested_there, cells_length}
+use Rattle.std.proofs.Common.{◌∙◌, rules, tests}
+use Rattle.std.proofs.lemmas.Iterator.{YieldsList-from_slice}
+use Rattle.std.proofs.lemmas.Iterator.Search.{position_from_yields_List}
+use Rattle.history.specs.Cells.{is_free}
+use Rattle.slots.specs.Seeing.{cell_of}
+use Rattle.slots.proofs.Finding.{position_map}
 use Rattle.slots.proofs.slot.Slots.find_free.Goals as goal
 
-pub returns-then-is_free : goal.returns-then-is_free
-returns-then-is_free c =
-    record {
-      place = sym (first_found free is_free (cells_of c.args.self.now) c.loop-i.i c.loop-i.invariant (omega (arith, cells_length c.args.self.now))
-          (tested_there is_free c.args.self.now c.loop-i.i c.index.result.now _ c.loop-i-test.true c.index.ensures c.if-is_free.ensures));
-      within = c.loop-i-test.true;
-    }
-
-pub loop-i-preserved : goal.loop-i-preserved
-loop-i-preserved c =
-    below_more _ _ c.loop-i.invariant (tested_there is_free c.args.self.now c.loop-i.i c.index.result.now _ c.loop-i-test.true c.index.ensures c.if-is_free.ensures)
-
-pub returns : goal.returns
-returns c = record { place = sym (first_none free is_free (cells_of c.args.self.now) (λ k l. c.loop-i.invariant k (omega (arith, cells_length c.args.self.now)))); within = tt }
+pub returns-clause-place : goal.returns-clause-place
+returns-clause-place c =
+    position_from_yields_List (λ slot. is_free (cell_of slot)) _ _ c.position.result c.position.ensures.ran (YieldsList-from_slice _ (c.iter.ensures.rest ∙ c.deref.ensures.value)) (λ x b q k. search (rules, tests))
+    ∙ position_map is_free c.args.self.now

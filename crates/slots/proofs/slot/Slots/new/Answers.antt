@@ -1,14 +1,9 @@
-use Rattle.std.proofs.Common.{map, vec_items, ap, arith}
-use Rattle.std.proofs.lemmas.List.{replicate_more, map_push}
-use Rattle.history.specs.Cells.{Cell, free}
+use Rattle.std.proofs.Common.{map, refl, ap, ◌∙◌, rules, tests}
 use Rattle.slots.specs.Seeing.{cell_of}
+use Rattle.slots.proofs.Finding.{all_free}
 use Rattle.slots.proofs.slot.Slots.new.Goals as goal
 
-pub loop-i-preserved : goal.loop-i-preserved
-loop-i-preserved c =
-    let items = ap (map cell_of) c.push_reserved.ensures.items in
-    let push = map_push cell_of (vec_items c.loop-i.slots) c.in_ok-new.field-0 in
-    let more = replicate_more {X = Cell} c.loop-i._i free in
-    let slot = c.in_ok-new.ensures in
-    let was = c.loop-i.invariant.2 in
-    (omega arith, omega (arith, c.push_reserved.ensures.capacity, c.loop-i.invariant.1), cc)
+pub returns : goal.returns
+returns c =
+    let made = c.in_ok-slots.ensures.ok in
+    (ap (map cell_of) c.in_ok-from_array.ensures.items ∙ all_free c.in_ok-slots.slots 16 made.long (λ i l d. let called = made.at i d l in search (rules, tests)), refl)
