@@ -1,5 +1,6 @@
 -- The commands that lines spell. Assumes nothing.
-use Rattle.std.specs.Prelude.{ℕ, Bool, cond, not, ◌&&◌, List, length, Some, None, codes, Option, ◌==◌, slice_index}
+use denote.Ref.{Bor}
+use Rattle.std.specs.Prelude.{◌≡◌, ℕ, false, [], MatchOption, Bool, if◌then◌else◌, not, ◌&&◌, List, length, Some, None, codes, Option, ◌==◌, slice_index}
 use Rattle.std.specs.Option.{option_map}
 use Rattle.std.specs.Str.{bytes_eq}
 use Rattle.names.specs.declared.name.Name.{Name}
@@ -26,6 +27,10 @@ bind (Some x) f = f x
 abbrev pub blank : List ℕ → Bool
 blank line = length (trimmed line) == 0
 
+-- a word was read, and what stands after it is left; or there was none, and the line stays as it is
+abbrev pub NextWord : List ℕ → Option (Bor (List ℕ)) → List ℕ → Type 0
+NextWord line next left = MatchOption next ((trimmed line ≡ []) × (left ≡ line)) (λ first. (blank line ≡ false) × (first.now ≡ word line) × (left ≡ rest line))
+
 -- there is one word
 abbrev pub is_lone : List ℕ → Bool
 is_lone words = not (blank words) && blank (rest words)
@@ -37,9 +42,9 @@ name_of text = record { bytes = held text }
 -- the observance of a row: 0 or 1
 abbrev pub day : List ℕ → Option Observance
 day digit =
-    cond (length digit == 1)
-    (cond (slice_index digit 0 == 48) (Some Standard) (cond (slice_index digit 0 == 49) (Some Daylight) None))
-    None
+    if length digit == 1
+    then (if slice_index digit 0 == 48 then Some Standard else (if slice_index digit 0 == 49 then Some Daylight else None))
+    else None
 
 -- the four words of a row
 abbrev pub row : List ℕ → Option Row
@@ -48,25 +53,25 @@ row words =
     bind (number 31 (word (rest words))) (λ from.
     bind (number 31 (word (rest (rest words)))) (λ to.
     bind (day (word (rest (rest (rest words))))) (λ observance.
-    cond (blank (rest (rest (rest (rest words))))) (Some (record { onset = onset; from = from; to = to; observance = observance })) None))))
+    if blank (rest (rest (rest (rest words)))) then Some (record { onset = onset; from = from; to = to; observance = observance }) else None))))
 
 -- the two words of a storage
 abbrev pub storage : List ℕ → Option Storage
 storage words =
     bind (count (word words)) (λ entries.
     bind (count (word (rest words))) (λ rows.
-    cond (blank (rest (rest words))) (Some (record { entries = entries; rows = rows })) None))
+    if blank (rest (rest words)) then Some (record { entries = entries; rows = rows }) else None))
 
 -- the two words of an interval
 abbrev pub interval : List ℕ → Option Interval
 interval words =
     bind (number 63 (word words)) (λ start.
     bind (number 63 (word (rest words))) (λ end.
-    cond (blank (rest (rest words))) (Some (record { start = start; end = end })) None))
+    if blank (rest (rest words)) then Some (record { start = start; end = end }) else None))
 
 -- the only word, as a name
 abbrev pub lone_name : List ℕ → Option Name
-lone_name words = cond (is_lone words) (Some (name_of (word words))) None
+lone_name words = if is_lone words then Some (name_of (word words)) else None
 
 -- a name and an interval
 abbrev pub stay : List ℕ → Option Stay
@@ -76,28 +81,28 @@ stay words = option_map (λ i. record { name = name_of (word words); interval = 
 abbrev pub question : List ℕ → Option Call
 question words =
     bind (number 63 (word (rest words))) (λ t.
-    cond (blank (rest (rest words))) (Some (Query (name_of (word words)) (record { 0 = t }))) None)
+    if blank (rest (rest words)) then Some (Query (name_of (word words)) (record { 0 = t })) else None)
 
 -- the call on the client of a word and the words after it
 abbrev pub call : List ℕ → List ℕ → Option Call
 call first others =
-    cond (bytes_eq first (codes "begin")) (option_map (λ s. Begin s.name s.interval) (stay others))
-    (cond (bytes_eq first (codes "collect")) (option_map Collect (lone_name others))
-    (cond (bytes_eq first (codes "abandon")) (option_map Abandon (lone_name others))
-    (cond (bytes_eq first (codes "forget")) (option_map Forget (lone_name others))
-    (cond (bytes_eq first (codes "query")) (question others) None))))
+    if bytes_eq first (codes "begin") then option_map (λ s. Begin s.name s.interval) (stay others)
+    else (if bytes_eq first (codes "collect") then option_map Collect (lone_name others)
+    else (if bytes_eq first (codes "abandon") then option_map Abandon (lone_name others)
+    else (if bytes_eq first (codes "forget") then option_map Forget (lone_name others)
+    else (if bytes_eq first (codes "query") then question others else None))))
 
 -- the setting of a word and the words after it, or else the call on the client
 abbrev pub setting : List ℕ → List ℕ → Option Command
 setting first others =
-    cond (bytes_eq first (codes "root")) (option_map Store (storage others))
-    (cond (bytes_eq first (codes "span")) (option_map Truncate (interval others))
-    (cond (bytes_eq first (codes "uplink") && is_lone others) (Some Uplink)
-    (cond (bytes_eq first (codes "downlink") && is_lone others) (Some Downlink) (option_map Make (call first others)))))
+    if bytes_eq first (codes "root") then option_map Store (storage others)
+    else (if bytes_eq first (codes "span") then option_map Truncate (interval others)
+    else (if bytes_eq first (codes "uplink") && is_lone others then Some Uplink
+    else (if bytes_eq first (codes "downlink") && is_lone others then Some Downlink else option_map Make (call first others))))
 
 -- the command of a line
 abbrev pub command : List ℕ → Option Command
 command line =
-    cond (bytes_eq (word line) (codes "row")) (option_map Gather (row (rest line)))
-    (cond (bytes_eq (word line) (codes "publish")) (option_map Publish (stay (rest line)))
-    (setting (word line) (rest line)))
+    if bytes_eq (word line) (codes "row") then option_map Gather (row (rest line))
+    else (if bytes_eq (word line) (codes "publish") then option_map Publish (stay (rest line))
+    else setting (word line) (rest line))

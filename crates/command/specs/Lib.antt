@@ -1,3 +1,4 @@
 pub mod Numbers
+pub mod Parsing
 pub mod Words
 pub mod Commands

@@ -1,52 +1,34 @@
 // Commands read from lines.
 ghost use Rattle.std.specs.Prelude.{◌≡◌};
-ghost use Rattle.std.specs.Str.{bytes_eq};
-ghost use Rattle.command.specs.Commands.{call as call_of, command as command_of, day as day_of, interval as interval_of, is_lone as is_lone_of, lone_name as lone_name_of, name_of, question as question_of, row as row_of, setting as setting_of, stay as stay_of, storage as storage_of};
+ghost use Rattle.command.specs.Commands.{call as call_of, command as command_of, day as day_of, interval as interval_of, is_lone as is_lone_of, lone_name as lone_name_of, question as question_of, row as row_of, setting as setting_of, stay as stay_of, storage as storage_of};
 
 use super::lines::{Command, Stay, Storage};
-use super::numbers::{parse_i32, parse_i64, parse_usize};
-use super::splits::{is_blank, split_word};
+use super::numbers::parse;
+use super::words::Words;
 use client::listing::Call;
 use names::name::Name;
 use zone::rows::{Instant, Interval, Observance, Row};
 
-fn same(a: &[u8], b: &[u8]) -> bool
-    ensures { result ≡ bytes_eq a.now b.now }
-{
-    a == b
-}
-
 // The observance: 0 for standard time, 1 for daylight saving time.
-fn day(digit: &[u8]) -> Option<Observance>
-    ensures { result ≡ day_of digit.now }
+fn day(word: &[u8]) -> Option<Observance>
+    ensures { result ≡ day_of word.now }
 {
-    if digit.len() != 1 {
-        None
-    } else if digit[0] == b'0' {
-        Some(Observance::Standard)
-    } else if digit[0] == b'1' {
-        Some(Observance::Daylight)
-    } else {
-        None
+    match word {
+        [b'0'] => Some(Observance::Standard),
+        [b'1'] => Some(Observance::Daylight),
+        _ => None,
     }
 }
 
 // The row of four words.
-fn row(words: &[u8]) -> Option<Row>
-    ensures { result ≡ row_of words.now }
+fn row(mut words: Words<'_>) -> Option<Row>
+    ensures { result ≡ row_of words.entry }
 {
-    let (first, others) = split_word(words);
-    let onset = parse_i64(first)?;
-    let (second, others) = split_word(others);
-    let from = parse_i32(second)?;
-    let (third, others) = split_word(others);
-    let to = parse_i32(third)?;
-    let (fourth, others) = split_word(others);
-    let observance = day(fourth)?;
-    if !is_blank(others) {
-        return None;
-    }
-    Some(Row {
+    let onset = parse(words.next()?)?;
+    let from = parse(words.next()?)?;
+    let to = parse(words.next()?)?;
+    let observance = day(words.next()?)?;
+    words.is_empty().then_some(Row {
         onset,
         from,
         to,
@@ -55,122 +37,93 @@ fn row(words: &[u8]) -> Option<Row>
 }
 
 // The storage of two words.
-fn storage(words: &[u8]) -> Option<Storage>
-    ensures { result ≡ storage_of words.now }
+fn storage(mut words: Words<'_>) -> Option<Storage>
+    ensures { result ≡ storage_of words.entry }
 {
-    let (first, others) = split_word(words);
-    let entries = parse_usize(first)?;
-    let (second, others) = split_word(others);
-    let rows = parse_usize(second)?;
-    if !is_blank(others) {
-        return None;
-    }
-    Some(Storage { entries, rows })
+    let entries = parse(words.next()?)?;
+    let rows = parse(words.next()?)?;
+    words.is_empty().then_some(Storage { entries, rows })
 }
 
 // The interval of two words.
-fn interval(words: &[u8]) -> Option<Interval>
-    ensures { result ≡ interval_of words.now }
+fn interval(mut words: Words<'_>) -> Option<Interval>
+    ensures { result ≡ interval_of words.entry }
 {
-    let (first, others) = split_word(words);
-    let start = parse_i64(first)?;
-    let (second, others) = split_word(others);
-    let end = parse_i64(second)?;
-    if !is_blank(others) {
-        return None;
-    }
-    Some(Interval { start, end })
-}
-
-// The name that a word spells.
-fn name(word: &[u8]) -> Name
-    ensures { result ≡ name_of word.now }
-{
-    Name::from_text(word)
-}
-
-// Whether there is one word.
-fn is_lone(words: &[u8]) -> bool
-    ensures { result ≡ is_lone_of words.now }
-{
-    let (_, others) = split_word(words);
-    !is_blank(words) && is_blank(others)
+    let start = parse(words.next()?)?;
+    let end = parse(words.next()?)?;
+    words.is_empty().then_some(Interval { start, end })
 }
 
 // The name of one word.
-fn lone_name(words: &[u8]) -> Option<Name>
-    ensures { result ≡ lone_name_of words.now }
+fn lone_name(mut words: Words<'_>) -> Option<Name>
+    ensures { result ≡ lone_name_of words.entry }
 {
-    if !is_lone(words) {
-        return None;
-    }
-    let (first, _) = split_word(words);
-    Some(name(first))
+    let name = Name::from_text(words.next()?);
+    words.is_empty().then_some(name)
+}
+
+// Whether there is one word.
+fn is_lone(mut words: Words<'_>) -> bool
+    ensures { result ≡ is_lone_of words.entry }
+{
+    words.next().is_some() && words.is_empty()
 }
 
 // The name and the interval of three words.
-fn stay(words: &[u8]) -> Option<Stay>
-    ensures { result ≡ stay_of words.now }
+fn stay(mut words: Words<'_>) -> Option<Stay>
+    ensures { result ≡ stay_of words.entry }
 {
-    let (first, others) = split_word(words);
-    let interval = interval(others)?;
-    let name = name(first);
+    let name = Name::from_text(words.next()?);
+    let interval = interval(words)?;
     Some(Stay { name, interval })
 }
 
 // The query of a name and an instant.
-fn question(words: &[u8]) -> Option<Call>
-    ensures { result ≡ question_of words.now }
+fn question(mut words: Words<'_>) -> Option<Call>
+    ensures { result ≡ question_of words.entry }
 {
-    let (first, others) = split_word(words);
-    let (second, others) = split_word(others);
-    let at = parse_i64(second)?;
-    if !is_blank(others) {
-        return None;
-    }
-    Some(Call::Query {
-        name: name(first),
-        at: Instant(at),
-    })
+    let name = Name::from_text(words.next()?);
+    let at = Instant(parse(words.next()?)?);
+    words.is_empty().then_some(Call::Query { name, at })
 }
 
 // The call on the client of a word and the words after it.
-fn call(first: &[u8], others: &[u8]) -> Option<Call>
-    ensures { result ≡ call_of first.now others.now }
+fn call(verb: &[u8], words: Words<'_>) -> Option<Call>
+    ensures { result ≡ call_of verb.now words.entry }
 {
-    if same(first, b"begin") {
-        let Stay { name, interval } = stay(others)?;
+    if verb == "begin".as_bytes() {
+        let Stay { name, interval } = stay(words)?;
         Some(Call::Begin { name, interval })
-    } else if same(first, b"collect") {
-        let name = lone_name(others)?;
+    } else if verb == "collect".as_bytes() {
+        let name = lone_name(words)?;
         Some(Call::Collect { name })
-    } else if same(first, b"abandon") {
-        let name = lone_name(others)?;
+    } else if verb == "abandon".as_bytes() {
+        let name = lone_name(words)?;
         Some(Call::Abandon { name })
-    } else if same(first, b"forget") {
-        let name = lone_name(others)?;
+    } else if verb == "forget".as_bytes() {
+        let name = lone_name(words)?;
         Some(Call::Forget { name })
-    } else if same(first, b"query") {
-        question(others)
+    } else if verb == "query".as_bytes() {
+        question(words)
     } else {
         None
     }
 }
 
 // The setting of a word and the words after it, or else the call on the client.
-fn setting(first: &[u8], others: &[u8]) -> Option<Command>
-    ensures { result ≡ setting_of first.now others.now }
+fn setting(verb: &[u8], words: Words<'_>) -> Option<Command>
+    ensures { result ≡ setting_of verb.now words.entry }
 {
-    if same(first, b"root") {
-        Some(Command::Store(storage(others)?))
-    } else if same(first, b"span") {
-        Some(Command::Truncate(interval(others)?))
-    } else if same(first, b"uplink") && is_lone(others) {
-        Some(Command::Uplink)
-    } else if same(first, b"downlink") && is_lone(others) {
-        Some(Command::Downlink)
+    if verb == "root".as_bytes() {
+        Some(Command::Store(storage(words)?))
+    } else if verb == "span".as_bytes() {
+        Some(Command::Truncate(interval(words)?))
+    } else if verb == "uplink".as_bytes() {
+        is_lone(words).then_some(Command::Uplink)
+    } else if verb == "downlink".as_bytes() {
+        is_lone(words).then_some(Command::Downlink)
     } else {
-        Some(Command::Make(call(first, others)?))
+        Some(Command::Make(call(verb, words)?))
     }
 }
 
@@ -178,12 +131,13 @@ fn setting(first: &[u8], others: &[u8]) -> Option<Command>
 pub fn command(line: &[u8]) -> Option<Command>
     ensures { result ≡ command_of line.now }
 {
-    let (first, others) = split_word(line);
-    if same(first, b"row") {
-        Some(Command::Gather(row(others)?))
-    } else if same(first, b"publish") {
-        Some(Command::Publish(stay(others)?))
+    let mut words = Words::new(line);
+    let verb = words.next()?;
+    if verb == "row".as_bytes() {
+        Some(Command::Gather(row(words)?))
+    } else if verb == "publish".as_bytes() {
+        Some(Command::Publish(stay(words)?))
     } else {
-        setting(first, others)
+        setting(verb, words)
     }
 }

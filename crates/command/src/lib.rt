@@ -5,3 +5,4 @@ pub mod commands;
 pub mod lines;
 pub mod numbers;
 pub mod splits;
+pub mod words;

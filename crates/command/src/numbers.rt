@@ -1,49 +1,47 @@
 // Numbers that words spell.
-ghost use Rattle.std.specs.Prelude.{◌≡◌, ◌==◌, slice_index};
-ghost use Rattle.command.specs.Numbers.{count, number};
+ghost use Rattle.std.specs.Prelude.{◌≡◌, ℕ, List, Option};
+ghost use Rattle.command.specs.Numbers.{AsParsed, count, number};
+ghost use Rattle.command.specs.Parsing.{counted, numbered};
+ghost use Rattle.std.proofs.Common.{w32, w64};
 
-// Whether the word begins with a plus sign.
-fn has_plus(word: &[u8]) -> bool
-    ensures { result ≡ (slice_index word.now 0 == 43) }
-{
-    word.len() > 0 && word[0] == b'+'
+use std::str::FromStr;
+
+/// Numbers that words spell in decimal, with no plus sign.
+pub trait Spelled: FromStr {
+    // The number that a word spells.
+    ghost spelled: { List ℕ → Option Self };
+
+    // It is the one that `parse` gives.
+    ghost parsed: { AsParsed Self.from_str_gives spelled };
 }
 
-/// The number that a word spells, in decimal with an optional minus sign, where it is one of 64 bits.
-pub fn parse_i64(word: &[u8]) -> Option<i64>
-    ensures { result ≡ number 63 word.now }
-{
-    if has_plus(word) {
-        return None;
-    }
-    match std::str::from_utf8(word) {
-        Ok(text) => text.parse::<i64>().ok(),
-        Err(_) => None,
-    }
+impl Spelled for i64 {
+    ghost spelled = { number 63 };
+
+    ghost parsed = { numbered w64 (λ _ _ h. h.0) };
 }
 
-/// The same of 32 bits.
-pub fn parse_i32(word: &[u8]) -> Option<i32>
-    ensures { result ≡ number 31 word.now }
-{
-    if has_plus(word) {
-        return None;
-    }
-    match std::str::from_utf8(word) {
-        Ok(text) => text.parse::<i32>().ok(),
-        Err(_) => None,
-    }
+impl Spelled for i32 {
+    ghost spelled = { number 31 };
+
+    ghost parsed = { numbered w32 (λ _ _ h. h.0) };
 }
 
-/// The number that digits alone spell, where it is one of 64 bits.
-pub fn parse_usize(word: &[u8]) -> Option<usize>
-    ensures { result ≡ count word.now }
+impl Spelled for usize {
+    ghost spelled = { count };
+
+    ghost parsed = { counted (λ _ _ h. h.0) };
+}
+
+/// The number that a word spells, if it spells one.
+pub fn parse<T: Spelled>(word: &[u8]) -> Option<T>
+where
+    T::Err: Drop,
+    ensures { result ≡ T.spelled word.now }
 {
-    if has_plus(word) {
+    if word.starts_with(b"+") {
         return None;
     }
-    match std::str::from_utf8(word) {
-        Ok(text) => text.parse::<usize>().ok(),
-        Err(_) => None,
-    }
+    let text = std::str::from_utf8(word).ok()?;
+    text.parse().ok()
 }

@@ -1,6 +1,5 @@
 -- What the providers of a stack mean, each by what is below it; a check that takes them for the providers' own shows that they are. Assumes nothing.
 use Rattle.std.specs.Prelude.{◌≡◌, vec_len, MatchBool}
-use Rattle.std.specs.VecDeque.{deque_items}
 use Rattle.zone.specs.Intervals.{era}
 use Rattle.provider.specs.declared.providers.Provider.{Ghosts}
 use Rattle.provider.specs.declared.publishing.Publishing.{Ghosts as PublishingGhosts}
@@ -35,7 +34,7 @@ truncation_takes h = record { fits = λ s. h.fits s.below; after_publish = λ s 
 
 -- a line
 abbrev pub lined : {S : Type 0} → Ghosts S → Ghosts (Line S)
-lined g = record { span = λ s. g.span s.below; count = λ s. g.count s.below; pages = λ s. g.pages s.below; turn = λ s n i. turn_by (next_fate (deque_items s.fates)) (g.turn s.below n i); in_order = λ s. g.in_order s.below; after_fetch = λ s q t. MatchBool (passes q (g.span s.below)) (Sent g.after_fetch (deque_items s.fates) (deque_items t.fates) s.below t.below s.scratch t.scratch q) (t ≡ s) }
+lined g = record { span = λ s. g.span s.below; count = λ s. g.count s.below; pages = λ s. g.pages s.below; turn = λ s n i. turn_by (next_fate s.fates.items) (g.turn s.below n i); in_order = λ s. g.in_order s.below; after_fetch = λ s q t. MatchBool (passes q (g.span s.below)) (Sent g.after_fetch s.fates.items t.fates.items s.below t.below s.scratch t.scratch q) (t ≡ s) }
 
 abbrev pub line_takes : {S : Type 0} → PublishingGhosts S → PublishingGhosts (Line S)
 line_takes h = record { fits = λ s. h.fits s.below; after_publish = λ s n t u. h.after_publish s.below n t u.below × (u.fates ≡ s.fates) × (u.scratch ≡ s.scratch) }

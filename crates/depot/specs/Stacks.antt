@@ -1,6 +1,5 @@
 -- The stack of a script. Assumes nothing.
 use Rattle.std.specs.Prelude.{◌≡◌, List, map}
-use Rattle.std.specs.VecDeque.{deque_items}
 use Rattle.zone.specs.Intervals.{era}
 use Rattle.root.specs.declared.roots.Root.{Root}
 use Rattle.root.specs.Roots.{New}
@@ -20,14 +19,14 @@ use Rattle.depot.specs.Meanings.{source_means, stack_means, stack_takes}
 
 -- what the relay stands on: a line with the uplink's fates, to the truncation of a new root with the storage
 pub record Sourced (setup : Setup) (s : Line (Truncation Root)) : Type 0 where
-  pub uplink : deque_items s.fates ≡ fates_of setup.uplink.now
+  pub uplink : s.fates.items ≡ fates_of setup.uplink.now
   pub span : s.below.span ≡ span_kept setup.span era
   pub root : New setup.storage.entries setup.storage.rows s.below.below
   pub order : source_means.in_order s
 
 -- the whole stack: a line with the downlink's fates, to a relay that keeps nothing yet
 pub record Stacked (setup : Setup) (s : Line (Relay (Line (Truncation Root)))) : Type 0 where
-  pub downlink : deque_items s.fates ≡ fates_of setup.downlink.now
+  pub downlink : s.fates.items ≡ fates_of setup.downlink.now
   pub keeps : kept s.below.places ≡ none_kept
   pub source : Sourced setup s.below.below
   pub order : stack_means.in_order s

@@ -1,7 +1,6 @@
 // Reads a script from standard input, makes its calls on a client over a stack of providers, and prints what they came to.
 #![tactic(auto)]
 
-mod dates;
 mod printing;
 mod stacks;
 

@@ -1,22 +1,13 @@
 // What the program prints.
-use super::dates::Date;
+use calendar::dates::{Seconds, Stamp};
 use client::listing::{Call, Entry, Outcome};
 use script::scripts::Script;
 use slots::answers::Answer;
-use std::fmt;
-use zone::refusals::Refusal;
-use zone::rows::Observance;
-
-/// What a call came to, in words.
-#[derive(Clone, Copy)]
-pub struct Words {
-    pub outcome: Outcome,
-}
 
 // The word of a call.
 fn verb(entry: &Entry) -> &'static str {
     match entry {
-        Entry::Publish { name: _, table: _ } => "publish",
+        Entry::Publish { .. } => "publish",
         Entry::Call { call } => match call {
             Call::Begin { .. } => "begin",
             Call::Collect { .. } => "collect",
@@ -27,83 +18,50 @@ fn verb(entry: &Entry) -> &'static str {
     }
 }
 
-// The instant that a query asks for.
-fn instant(entry: &Entry) -> Option<i64> {
-    match entry {
-        Entry::Call {
-            call: Call::Query { name: _, at },
-        } => Some(at.0),
-        _ => None,
-    }
-}
-
-// 0 for standard time, 1 for daylight saving time.
-fn day(observance: Observance) -> u8 {
-    match observance {
-        Observance::Standard => 0,
-        Observance::Daylight => 1,
-    }
-}
-
-// The edition that a refusal names.
-fn edition_of(refusal: Refusal) -> Option<u16> {
-    match refusal {
-        Refusal::NoPage { edition } => Some(edition),
-        Refusal::TooManyRows { edition } => Some(edition),
-        Refusal::BelowFloor { edition } => Some(edition),
-        _ => None,
-    }
-}
-
-// Shows a refusal.
-fn show_refusal<W: fmt::Write>(refusal: Refusal, f: &mut fmt::Formatter<W>) -> fmt::Result {
-    let number = refusal.number();
-    match edition_of(refusal) {
-        Some(edition) => write!(f, "refused {number} edition {edition}"),
-        None => write!(f, "refused {number}"),
-    }
-}
-
-// Shows the answer to a query.
-fn show_answer<W: fmt::Write>(answer: Answer, f: &mut fmt::Formatter<W>) -> fmt::Result {
+// Prints the answer to a query.
+fn print_answer(rt: &HostRuntime, answer: Answer) -> anyhow::Result<()> {
     let edition = answer.edition;
     let time = answer.local.time;
     let offset = answer.local.offset;
-    let day = day(answer.local.observance);
-    let date = Date { time };
-    write!(
-        f,
-        "edition {edition} local {time} offset {offset} day {day} at {date}"
-    )
-}
-
-impl fmt::Display for Words {
-    fn fmt<W: fmt::Write>(&self, f: &mut fmt::Formatter<W>) -> fmt::Result {
-        match self.outcome {
-            Outcome::Began { slot, .. } => write!(f, "slot {slot}"),
-            Outcome::Collected { edition } => write!(f, "edition {edition}"),
-            Outcome::Abandoned => f.write_str("done"),
-            Outcome::Forgotten => f.write_str("done"),
-            Outcome::Answered { answer } => show_answer(answer, f),
-            Outcome::Published { edition } => write!(f, "edition {edition}"),
-            Outcome::Refused { refusal } => show_refusal(refusal, f),
-            Outcome::HandedBack { refusal, .. } => show_refusal(refusal, f),
-            Outcome::NotPending => f.write_str("no pending fetch"),
-        }
-    }
-}
-
-// Prints a call and what it came to.
-fn print_one(rt: &HostRuntime, entry: &Entry, name: &[u8], outcome: Outcome) -> anyhow::Result<()> {
-    let verb = verb(entry);
-    let words = Words { outcome };
-    print!(rt; "{verb} ")?;
-    rt.write_all(name)?;
-    match instant(entry) {
-        Some(at) => println!(rt; " {at}: {words}")?,
-        None => println!(rt; ": {words}")?,
+    let day = u8::from(answer.local.observance);
+    print!(rt; "edition {edition} local {time} offset {offset} day {day} at ")?;
+    match Stamp::try_from(Seconds(time)) {
+        Ok(stamp) => println!(rt; "{stamp}")?,
+        Err(another_year) => println!(rt; "{another_year}")?,
     }
     Ok(())
+}
+
+// Prints what a call came to.
+fn print_outcome(rt: &HostRuntime, outcome: Outcome) -> anyhow::Result<()> {
+    match outcome {
+        Outcome::Began { slot, .. } => println!(rt; "slot {slot}")?,
+        Outcome::Collected { edition } => println!(rt; "edition {edition}")?,
+        Outcome::Abandoned => println!(rt; "done")?,
+        Outcome::Forgotten => println!(rt; "done")?,
+        Outcome::Answered { answer } => print_answer(rt, answer)?,
+        Outcome::Published { edition } => println!(rt; "edition {edition}")?,
+        Outcome::Refused { refusal } => println!(rt; "{refusal}")?,
+        Outcome::HandedBack { refusal, .. } => println!(rt; "{refusal}")?,
+        Outcome::NotPending => println!(rt; "no pending fetch")?,
+    }
+    Ok(())
+}
+
+// Prints a call with its name, and what it came to.
+fn print_one(rt: &HostRuntime, entry: &Entry, name: &[u8], outcome: Outcome) -> anyhow::Result<()> {
+    let verb = verb(entry);
+    print!(rt; "{verb} ")?;
+    rt.write_all(name)?;
+    if let Entry::Call {
+        call: Call::Query { at, .. },
+    } = entry
+    {
+        let at = at.0;
+        print!(rt; " {at}")?;
+    }
+    print!(rt; ": ")?;
+    print_outcome(rt, outcome)
 }
 
 /// Prints the calls of a script and what they came to, in order.

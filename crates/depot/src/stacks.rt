@@ -23,8 +23,7 @@ fn source(heap: Global, setup: Setup<'_>) -> Result<Source, AllocError>
 {
     let root = Root::new(heap, setup.storage.entries, setup.storage.rows)?;
     let truncation = Truncation::new(root, setup.span);
-    let line = Line::new(heap, truncation, setup.uplink)?;
-    Ok(line)
+    Ok(Line::new(heap, truncation, setup.uplink)?)
 }
 
 // The whole stack.
@@ -32,8 +31,7 @@ fn stack(heap: Global, setup: Setup<'_>) -> Result<Stack, AllocError>
     ensures { IfOk result (Stacked setup.entry) }
 {
     let relay = Relay::new(heap, source(heap, setup)?)?;
-    let line = Line::new(heap, relay, setup.downlink)?;
-    Ok(line)
+    Ok(Line::new(heap, relay, setup.downlink)?)
 }
 
 /// Makes the calls of a script on a new client over the script's stack.

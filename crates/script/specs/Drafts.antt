@@ -1,5 +1,5 @@
 -- What the lines of a script come to, one after the other. Assumes nothing.
-use Rattle.std.specs.Prelude.{ℕ, Bool, cond, not, ◌&&◌, ◌||◌, List, [], ◌∷◌, ◌++◌, length, is_some, Some, None, Option, ◌==◌, slice_index}
+use Rattle.std.specs.Prelude.{ℕ, Bool, if◌then◌else◌, not, ◌&&◌, ◌||◌, List, [], ◌∷◌, ◌++◌, length, is_some, Some, None, Option, ◌==◌, slice_index}
 use Rattle.names.specs.declared.name.Name.{Name}
 use Rattle.zone.specs.declared.rows.Interval.{Interval}
 use Rattle.zone.specs.declared.rows.Row.{Row}
@@ -37,31 +37,31 @@ setting_up d = is_some d.storage && (length d.rows == 0 && length d.calls == 0)
 -- Settings come at most once each: the storage first, the others before the first call or row.
 -- the storage set
 abbrev pub stored : Read → Storage → Option Read
-stored d s = cond (is_some d.storage) None (Some (record { storage = Some s; span = d.span; uplink = d.uplink; downlink = d.downlink; rows = d.rows; calls = d.calls; names = d.names }))
+stored d s = if is_some d.storage then None else Some (record d { storage = Some s })
 
 -- the span of the truncation set
 abbrev pub truncated : Read → Interval → Option Read
-truncated d i = cond (setting_up d && not (is_some d.span)) (Some (record { storage = d.storage; span = Some i; uplink = d.uplink; downlink = d.downlink; rows = d.rows; calls = d.calls; names = d.names })) None
+truncated d i = if setting_up d && not (is_some d.span) then Some (record d { span = Some i }) else None
 
 -- the marks of the line below the relay set
 abbrev pub uplinked : Read → List ℕ → Option Read
-uplinked d marks = cond (setting_up d && not (is_some d.uplink)) (Some (record { storage = d.storage; span = d.span; uplink = Some marks; downlink = d.downlink; rows = d.rows; calls = d.calls; names = d.names })) None
+uplinked d marks = if setting_up d && not (is_some d.uplink) then Some (record d { uplink = Some marks }) else None
 
 -- the marks of the line above the relay set
 abbrev pub downlinked : Read → List ℕ → Option Read
-downlinked d marks = cond (setting_up d && not (is_some d.downlink)) (Some (record { storage = d.storage; span = d.span; uplink = d.uplink; downlink = Some marks; rows = d.rows; calls = d.calls; names = d.names })) None
+downlinked d marks = if setting_up d && not (is_some d.downlink) then Some (record d { downlink = Some marks }) else None
 
 -- one more row
 abbrev pub gathered : Read → Row → Read
-gathered d r = record { storage = d.storage; span = d.span; uplink = d.uplink; downlink = d.downlink; rows = d.rows ++ r ∷ []; calls = d.calls; names = d.names }
+gathered d r = record d { rows = d.rows ++ r ∷ [] }
 
 -- one more call, with its name as it stands
 abbrev pub listed : Read → Listed → List ℕ → Read
-listed d c name = record { storage = d.storage; span = d.span; uplink = d.uplink; downlink = d.downlink; rows = d.rows; calls = d.calls ++ c ∷ []; names = d.names ++ name ∷ [] }
+listed d c name = record d { calls = d.calls ++ c ∷ []; names = d.names ++ name ∷ [] }
 
 -- the gathered rows published, and none gathered
 abbrev pub posted : Read → Stay → List ℕ → Read
-posted d s name = record { storage = d.storage; span = d.span; uplink = d.uplink; downlink = d.downlink; rows = []; calls = d.calls ++ published s.name s.interval d.rows ∷ []; names = d.names ++ name ∷ [] }
+posted d s name = record d { rows = []; calls = d.calls ++ published s.name s.interval d.rows ∷ []; names = d.names ++ name ∷ [] }
 
 -- what a command does, where the storage came first; `w` is the second word of its line
 abbrev pub moved : Read → List ℕ → Command → Option Read
@@ -69,9 +69,9 @@ moved d w (Store s) = stored d s
 moved d w (Truncate i) = truncated d i
 moved d w Uplink = uplinked d w
 moved d w Downlink = downlinked d w
-moved d w (Gather r) = cond (is_some d.storage) (Some (gathered d r)) None
-moved d w (Publish s) = cond (is_some d.storage) (Some (posted d s w)) None
-moved d w (Make c) = cond (is_some d.storage) (Some (listed d (called c) w)) None
+moved d w (Gather r) = if is_some d.storage then Some (gathered d r) else None
+moved d w (Publish s) = if is_some d.storage then Some (posted d s w) else None
+moved d w (Make c) = if is_some d.storage then Some (listed d (called c) w) else None
 
 -- the line says nothing: it is blank, or begins with '#'
 abbrev pub skipped : List ℕ → Bool
@@ -79,4 +79,4 @@ skipped line = blank line || slice_index line 0 == 35
 
 -- what a line does; none where it is not understood
 abbrev pub line_read : Read → List ℕ → Option Read
-line_read d line = cond (skipped line) (Some d) (bind (command line) (moved d (word (rest line))))
+line_read d line = if skipped line then Some d else bind (command line) (moved d (word (rest line)))

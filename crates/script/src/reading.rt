@@ -1,50 +1,74 @@
 // Scripts read line by line.
-ghost use Rattle.std.specs.Prelude.{◌≡◌, length, IfOk, OnOk, ◌==◌, slice_index};
-ghost use Rattle.script.specs.declared.scripts.Fault.TheVariants.{NoMemory};
+ghost use Rattle.std.specs.Prelude.{◌≡◌, if◌then◌else◌, is_some, IsOk, None, OnOk, Some, ◌↔◌, IsTrue};
+ghost use Rattle.script.specs.declared.scripts.Trouble.TheVariants.{NotUnderstood, NoMemory};
 ghost use Rattle.command.specs.Words.{rest as rest_of, word as word_of};
-ghost use Rattle.script.specs.Drafts.{downlinked, line_read, listed, moved, posted, setting_up, skipped, stored, truncated, unread, uplinked};
+ghost use Rattle.script.specs.Drafts.{gathered, line_read, listed, moved, posted, setting_up, skipped, unread};
 ghost use Rattle.script.specs.Scripts.{finished, script as script_of};
-ghost use Rattle.script.specs.Seeing.{finish_of, listed_of, read_of, Reads, told};
+ghost use Rattle.script.specs.Seeing.{finish_of, listed_of, met, read_of, Reads, told, Took};
 
-use super::scripts::{Draft, Fault, Script, Setup};
+use super::scripts::{Draft, Fault, Misplaced, Script, Setup, Trouble};
 use client::listing::Entry;
 use command::commands::command;
-use command::lines::{Command, Stay, Storage};
-use command::splits::{is_blank, split, split_word};
+use command::lines::{Command, Stay};
+use command::words::Words;
 use std::alloc::{AllocError, Global};
 use zone::intervals::ERA;
-use zone::rows::Interval;
+use zone::rows::Row;
 use zone::windows::Table;
 
-impl From<AllocError> for Fault {
-    ghost from_gives = { λ _ r. r ≡ NoMemory };
+impl From<AllocError> for Trouble {
+    ghost from_gives = { λ _ trouble. trouble ≡ NoMemory };
 
-    fn from(_: AllocError) -> Fault {
-        Fault::NoMemory
+    fn from(_: AllocError) -> Trouble {
+        Trouble::NoMemory
     }
 }
 
-// Whether the line begins with '#'.
-fn is_comment(line: &[u8]) -> bool
-    ensures { result ≡ (slice_index line.now 0 == 35) }
-{
-    line.len() > 0 && line[0] == b'#'
+impl From<Misplaced> for Trouble {
+    ghost from_gives = { λ _ trouble. trouble ≡ NotUnderstood };
+
+    fn from(_: Misplaced) -> Trouble {
+        Trouble::NotUnderstood
+    }
 }
 
-// Whether the line says nothing: it is blank, or a comment.
+impl Trouble {
+    // The fault of a script at the line with this number.
+    fn at(self, line: usize) -> Fault
+        ensures { result ≡ met self line }
+    {
+        match self {
+            Trouble::NotUnderstood => Fault::NotUnderstood { line },
+            Trouble::NoMemory => Fault::NoMemory,
+        }
+    }
+}
+
+// Whether the line says nothing: it is blank, or begins with '#'.
 fn is_skipped(line: &[u8]) -> bool
     ensures { result ≡ skipped line.now }
 {
-    is_blank(line) || is_comment(line)
+    Words::new(line).is_empty() || line.starts_with(b"#")
 }
 
 // The second word of a line.
 fn second_word(line: &[u8]) -> &[u8]
     ensures { result.now ≡ word_of (rest_of line.now) }
 {
-    let (_, others) = split_word(line);
-    let (second, _) = split_word(others);
-    second
+    let mut words = Words::new(line);
+    let _ = words.next();
+    words.next().unwrap_or(b"")
+}
+
+// Sets what is not set yet.
+fn set_once<T: Drop>(place: &mut Option<T>, value: T) -> Result<(), Misplaced>
+    ensures { told result place.new ≡ (if is_some place.old then None else Some (Some value)) }
+{
+    if place.is_some() {
+        return Err(Misplaced);
+    }
+    *place = Some(value);
+    Ok(())
 }
 
 impl<'a> Draft<'a> {
@@ -63,62 +87,34 @@ impl<'a> Draft<'a> {
         }
     }
 
-    // Whether no call came yet.
-    fn has_no_calls(&self) -> bool
-        ensures { result ≡ (length (read_of self.now).calls == 0) }
+    // The storage is known.
+    fn check_begun(&self) -> Result<(), Misplaced>
+        ensures { IsOk result ↔ IsTrue (is_some (read_of self.now).storage) }
     {
-        self.entries.is_empty()
-    }
-
-    // Whether the storage is known, and no call or row came yet.
-    fn is_setting_up(&self) -> bool
-        ensures { result ≡ setting_up (read_of self.now) }
-    {
-        self.storage.is_some() && self.rows.is_empty() && self.has_no_calls()
-    }
-
-    // Takes the storage; false where it is known already.
-    fn store(&mut self, storage: Storage) -> bool
-        ensures { told result (read_of self.new) ≡ stored (read_of self.old) storage }
-    {
-        if self.storage.is_some() {
-            return false;
+        if self.storage.is_none() {
+            return Err(Misplaced);
         }
-        self.storage = Some(storage);
-        true
+        Ok(())
     }
 
-    // Takes the span; false where it is known already, or a call came.
-    fn truncate(&mut self, span: Interval) -> bool
-        ensures { told result (read_of self.new) ≡ truncated (read_of self.old) span }
+    // The storage is known, and no call or row came yet.
+    fn check_setting_up(&self) -> Result<(), Misplaced>
+        ensures { IsOk result ↔ IsTrue (setting_up (read_of self.now)) }
     {
-        if !self.is_setting_up() || self.span.is_some() {
-            return false;
+        self.check_begun()?;
+        if self.rows.is_empty() && self.entries.is_empty() {
+            Ok(())
+        } else {
+            Err(Misplaced)
         }
-        self.span = Some(span);
-        true
     }
 
-    // Takes the marks of the uplink; false likewise.
-    fn mark_uplink(&mut self, marks: &'a [u8]) -> bool
-        ensures { told result (read_of self.new) ≡ uplinked (read_of self.old) marks.now }
+    // Takes one more row.
+    fn gather(&mut self, row: Row) -> Result<(), AllocError>
+        ensures { OnOk result (read_of self.new ≡ gathered (read_of self.old) row) }
     {
-        if !self.is_setting_up() || self.uplink.is_some() {
-            return false;
-        }
-        self.uplink = Some(marks);
-        true
-    }
-
-    // Takes the marks of the downlink; false likewise.
-    fn mark_downlink(&mut self, marks: &'a [u8]) -> bool
-        ensures { told result (read_of self.new) ≡ downlinked (read_of self.old) marks.now }
-    {
-        if !self.is_setting_up() || self.downlink.is_some() {
-            return false;
-        }
-        self.downlink = Some(marks);
-        true
+        self.rows.push(row)?;
+        Ok(())
     }
 
     // Takes a call with its name.
@@ -131,13 +127,12 @@ impl<'a> Draft<'a> {
     }
 
     // Takes the publication of the gathered rows, and gathers anew.
-    fn publish(&mut self, heap: Global, stay: Stay, name: &'a [u8]) -> Result<(), AllocError>
+    fn publish(&mut self, stay: Stay, name: &'a [u8]) -> Result<(), AllocError>
         ensures { OnOk result (read_of self.new ≡ posted (read_of self.old) stay name.now) }
     {
-        let rows = std::mem::replace(&mut self.rows, Vec::new(heap));
         let table = Table {
             interval: stay.interval,
-            rows,
+            rows: std::mem::try_take(&mut self.rows)?,
         };
         let entry = Entry::Publish {
             name: stay.name,
@@ -146,40 +141,49 @@ impl<'a> Draft<'a> {
         self.add(entry, name)
     }
 
-    // Takes a call, a publication or a row.
-    fn take(&mut self, heap: Global, command: Command, word: &'a [u8]) -> Result<bool, AllocError>
-        ensures { IfOk result (λ b. told b (read_of self.new) ≡ moved (read_of self.old) word.now command) }
+    // Takes a command, where it may stand.
+    fn take(&mut self, command: Command, word: &'a [u8]) -> Result<(), Trouble>
+        ensures { Took (moved (read_of self.old) word.now command) result (read_of self.new) }
     {
         match command {
-            Command::Store(storage) => return Ok(self.store(storage)),
-            Command::Truncate(span) => return Ok(self.truncate(span)),
-            Command::Uplink => return Ok(self.mark_uplink(word)),
-            Command::Downlink => return Ok(self.mark_downlink(word)),
-            _ => {}
+            Command::Store(storage) => set_once(&mut self.storage, storage)?,
+            Command::Truncate(span) => {
+                self.check_setting_up()?;
+                set_once(&mut self.span, span)?;
+            }
+            Command::Uplink => {
+                self.check_setting_up()?;
+                set_once(&mut self.uplink, word)?;
+            }
+            Command::Downlink => {
+                self.check_setting_up()?;
+                set_once(&mut self.downlink, word)?;
+            }
+            Command::Gather(row) => {
+                self.check_begun()?;
+                self.gather(row)?;
+            }
+            Command::Publish(stay) => {
+                self.check_begun()?;
+                self.publish(stay, word)?;
+            }
+            Command::Make(call) => {
+                self.check_begun()?;
+                self.add(Entry::Call { call }, word)?;
+            }
         }
-        if self.storage.is_none() {
-            return Ok(false);
-        }
-        match command {
-            Command::Gather(row) => self.rows.push(row)?,
-            Command::Publish(stay) => self.publish(heap, stay, word)?,
-            Command::Make(call) => self.add(Entry::Call { call }, word)?,
-            _ => {}
-        }
-        Ok(true)
+        Ok(())
     }
 
-    // Takes what a line says; false where it is not understood.
-    fn read_line(&mut self, heap: Global, line: &'a [u8]) -> Result<bool, AllocError>
-        ensures { IfOk result (λ b. told b (read_of self.new) ≡ line_read (read_of self.old) line.now) }
+    // Takes what a line says.
+    fn read_line(&mut self, line: &'a [u8]) -> Result<(), Trouble>
+        ensures { Took (line_read (read_of self.old) line.now) result (read_of self.new) }
     {
         if is_skipped(line) {
-            return Ok(true);
+            return Ok(());
         }
-        match command(line) {
-            Some(command) => self.take(heap, command, second_word(line)),
-            None => Ok(false),
-        }
+        let command = command(line).ok_or(Trouble::NotUnderstood)?;
+        self.take(command, second_word(line))
     }
 
     // The script, where there is a storage.
@@ -206,19 +210,9 @@ pub fn read_script<'a>(heap: Global, text: &'a [u8]) -> Result<Script<'a>, Fault
     ensures { Reads (script_of text.now) result }
 {
     let mut draft = Draft::new(heap);
-    let mut rest = text;
-    let mut number = 0;
-    while rest.len() > 0 {
-        let (line, more) = split(rest, b'\n');
-        number += 1;
-        let understood = draft.read_line(heap, line)?;
-        if !understood {
-            return Err(Fault::NotUnderstood { line: number });
-        }
-        rest = more;
+    for (index, line) in text.split(|byte| *byte == b'\n').enumerate() {
+        let number = index + 1;
+        draft.read_line(line).map_err(|trouble| trouble.at(number))?;
     }
-    match draft.finish() {
-        Some(script) => Ok(script),
-        None => Err(Fault::NotUnderstood { line: 1 }),
-    }
+    draft.finish().ok_or(Fault::NotUnderstood { line: 1 })
 }

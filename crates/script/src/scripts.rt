@@ -16,6 +16,7 @@ pub struct Setup<'a> {
 #[derive(Drop)]
 pub struct Script<'a> {
     pub setup: Setup<'a>,
+    // The names stand in a list of their own, since the client takes the calls as a slice of entries.
     pub entries: Vec<Entry>,
     pub names: Vec<&'a [u8]>,
 }
@@ -33,10 +34,23 @@ pub struct Draft<'a> {
 }
 
 /// Why a script was not read.
-#[derive(Clone, Copy)]
+#[derive(Clone, Copy, PartialEq, Eq, Debug)]
 pub enum Fault {
     /// The line with this number, counted from 1, is not understood.
     NotUnderstood { line: usize },
     /// There is no memory for what was read.
+    NoMemory,
+}
+
+/// What a line says may not be said there.
+#[derive(Clone, Copy, PartialEq, Eq, Debug)]
+pub(crate) struct Misplaced;
+
+/// Why a line was not taken.
+#[derive(Clone, Copy, PartialEq, Eq, Debug)]
+pub(crate) enum Trouble {
+    /// It is no command, or stands where it may not.
+    NotUnderstood,
+    /// There is no memory for what it says.
     NoMemory,
 }

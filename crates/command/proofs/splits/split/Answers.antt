@@ -1,21 +1,33 @@
-use Rattle.std.proofs.Common.{◌+◌, length, sym, ap, ◌∙◌, arith, length-drop, rules}
-use Rattle.std.proofs.lemmas.List.{drop_all, take_all, take_rest}
+use Rattle.std.proofs.Common.{◌≡◌, ◌+◌, eqb, sym, ap, take, drop, length, ◌∙◌, arith, rules, tests}
+use Rattle.std.specs.List.{position}
+use Rattle.std.proofs.lemmas.Iterator.{YieldsList-from_slice}
+use Rattle.std.proofs.lemmas.Iterator.Search.{position_from_yields_List}
+use Rattle.std.proofs.lemmas.List.{take_rest, take_all, drop_all}
+use Rattle.command.proofs.Splitting.{found_at, found_none}
+use Rattle.command.proofs.splits.split.Goals.{After-position}
 use Rattle.command.proofs.splits.split.Goals as goal
 
-pub returns-then-n-bytes : goal.returns-then-n-bytes
-returns-then-n-bytes c =
-    let bs = c.args.bytes.now in
-    let n = c.find-n.result in
-    let e = take_rest bs (n + 1) in
-    record { front = search rules; back = e ∙ c.find-n.ensures.back; shorter = λ h. omega (arith, ap length e, length-drop (n + 1) bs) }
+-- the first mark was looked for
+sought : (c : After-position) → c.position.result ≡ position (λ b. eqb b c.args.mark) c.args.bytes.now
+sought c = position_from_yields_List (λ b. eqb b c.args.mark) _ _ c.position.result c.position.ensures.ran (YieldsList-from_slice _ c.iter.ensures.rest) (λ x b q k. search (rules, tests))
 
-pub returns-else-n-bytes : goal.returns-else-n-bytes
-returns-else-n-bytes c =
+pub returns-in-Some-clause-front : goal.returns-in-Some-clause-front
+returns-in-Some-clause-front c =
+    let at = found_at _ c.args.bytes.now _ (sym c.in-Some.is ∙ sought (goal.at.returns-in-Some-clause-front c).After-position) in
+    ap (λ n. take n c.args.bytes.now) at
+
+pub returns-in-Some-clause-back : goal.returns-in-Some-clause-back
+returns-in-Some-clause-back c =
+    let at = found_at _ c.args.bytes.now _ (sym c.in-Some.is ∙ sought (goal.at.returns-in-Some-clause-back c).After-position) in
+    take_rest c.args.bytes.now (c.in-Some.n + 1) ∙ ap (λ n. drop (n + 1) c.args.bytes.now) at
+
+pub returns-in-None-clause-front : goal.returns-in-None-clause-front
+returns-in-None-clause-front c =
+    let none = found_none _ c.args.bytes.now (sym c.in-None.is ∙ sought (goal.at.returns-in-None-clause-front c).After-position) in
+    sym (take_all _ c.args.bytes.now none)
+
+pub returns-in-None-clause-back : goal.returns-in-None-clause-back
+returns-in-None-clause-back c =
     let bs = c.args.bytes.now in
-    let n = c.find-n.result in
-    let e = take_rest bs n in
-    record {
-      front = sym (take_all n bs (omega arith)) ∙ c.find-n.ensures.front;
-      back = e ∙ drop_all n bs (omega arith) ∙ sym (drop_all (n + 1) bs (omega arith)) ∙ c.find-n.ensures.back;
-      shorter = λ h. omega (arith, ap length e, length-drop n bs);
-    }
+    let none = found_none _ bs (sym c.in-None.is ∙ sought (goal.at.returns-in-None-clause-back c).After-position) in
+    take_rest bs (length bs) ∙ drop_all (length bs) bs (omega arith) ∙ sym (drop_all _ bs (omega (arith, none)))

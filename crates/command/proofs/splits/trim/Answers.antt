@@ -1,16 +1,23 @@
-use Rattle.std.proofs.Common.{length, sym, ◌∙◌, arith, eq-eqb}
-use Rattle.std.proofs.lemmas.List.{drop_all, take_rest}
-use Rattle.std.proofs.lemmas.Bool.{ne_eqb}
-use Rattle.command.proofs.Splitting.{trimmed_more, trimmed_stop, trimmed_all}
+use Rattle.std.proofs.Common.{◌≡◌, not, eqb, sym, ap, drop, length, ◌∙◌, arith, rules, tests}
+use Rattle.std.specs.List.{position}
+use Rattle.std.proofs.lemmas.Iterator.{YieldsList-from_slice}
+use Rattle.std.proofs.lemmas.Iterator.Search.{position_from_yields_List}
+use Rattle.std.proofs.lemmas.List.{take_rest, drop_all}
+use Rattle.command.proofs.Splitting.{found_at, found_none}
+use Rattle.command.proofs.splits.trim.Goals.{After-position}
 use Rattle.command.proofs.splits.trim.Goals as goal
 
-pub returns-then-bytes-i-ne32 : goal.returns-then-bytes-i-ne32
-returns-then-bytes-i-ne32 c = take_rest c.args.bytes.now c.loop-i.i ∙ sym (trimmed_stop c.args.bytes.now c.loop-i.i (omega arith) (ne_eqb _ _ c.if-bytes-i-ne32.true)) ∙ c.loop-i.invariant
+-- the first byte that is no space was looked for
+sought : (c : After-position) → c.position.result ≡ position (λ b. not (eqb b 32)) c.args.bytes.now
+sought c = position_from_yields_List (λ b. not (eqb b 32)) _ _ c.position.result c.position.ensures.ran (YieldsList-from_slice _ c.iter.ensures.rest) (λ x b q k. search (rules, tests))
 
-pub loop-i-preserved : goal.loop-i-preserved
-loop-i-preserved c = sym (trimmed_more c.args.bytes.now c.loop-i.i (omega arith) (eq-eqb _ _ c.if-bytes-i-ne32.false)) ∙ c.loop-i.invariant
+pub returns-in-Some : goal.returns-in-Some
+returns-in-Some c =
+    let at = found_at _ c.args.bytes.now _ (sym c.in-Some.is ∙ sought (goal.at.returns-in-Some c).After-position) in
+    take_rest c.args.bytes.now c.in-Some.n ∙ ap (λ n. drop n c.args.bytes.now) at
 
-pub returns : goal.returns
-returns c =
+pub returns-in-None : goal.returns-in-None
+returns-in-None c =
     let bs = c.args.bytes.now in
-    take_rest bs (length bs) ∙ drop_all (length bs) bs (omega arith) ∙ sym (trimmed_all bs c.loop-i.i (omega arith)) ∙ c.loop-i.invariant
+    let none = found_none _ bs (sym c.in-None.is ∙ sought (goal.at.returns-in-None c).After-position) in
+    take_rest bs (length bs) ∙ drop_all (length bs) bs (omega arith) ∙ sym (drop_all _ bs none)
