@@ -18,7 +18,7 @@ pub(crate) fn place_in_force(rows: &[Row], at: Instant) -> usize
     ensures within { result < length rows.now }
     ensures row { row_at rows.now result ≡ in_force rows.now at.0 }
 {
-    // A `for` over the rows, and no search from the end: the customer asks for this form.
+    // A `for` over the rows, and no search from the end: it is a rule of the project that the rows are walked so.
     let mut place = 0;
     for (i, row) in rows.iter().enumerate() {
         if row.onset <= at.0 {

@@ -1,4 +1,3 @@
 pub mod Names
 pub mod Comparing
-pub mod Finding
 pub mod Laws

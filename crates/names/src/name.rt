@@ -12,7 +12,7 @@ pub struct Name {
     pub bytes: [u8; NAME_BYTES],
 }
 
-// Not derived: names are compared byte by byte, in a loop, since that is how the customer asks for it.
+// Not derived: it is a rule of the project that names are compared byte by byte, in a loop.
 impl PartialEq for Name {
     ghost eq = { same_name };
 
