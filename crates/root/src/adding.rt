@@ -16,7 +16,7 @@ use zone::windows::Table;
 /// The highest number of an edition.
 pub const LAST_EDITION: usize = 65_535;
 
-// Puts the rows after those that are stored. A `for`, and no `extend_from_slice`, which does not promise that the storage stays as large.
+// Puts the rows after those that are stored. A `for`, and no `extend_from_slice`, which does not promise that the storage stays as large; and the customer asks for rows to be walked so.
 fn store(rows: &[Row], storage: &mut Vec<Row>)
     requires { vec_len storage.old + length rows.now ≤ vec_capacity storage.old }
     ensures items { storage.new.items ≡ storage.old.items ++ rows.now }
