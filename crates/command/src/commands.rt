@@ -88,6 +88,7 @@ fn question(mut words: Words<'_>) -> Option<Call>
 }
 
 // The call on the client of a word and the words after it.
+// Here and below words are compared by `==`, since of a match on byte strings a proof learns the lengths only.
 fn call(verb: &[u8], words: Words<'_>) -> Option<Call>
     ensures { result ≡ call_of verb.now words.entry }
 {
