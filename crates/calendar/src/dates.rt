@@ -1,4 +1,6 @@
 // A date with a time of day, a count of seconds, and what is neither.
+ghost use Rattle.std.specs.Prelude.{Some, codes};
+
 use std::error::Error;
 use std::fmt;
 
@@ -15,6 +17,7 @@ pub struct Stamp {
 }
 
 /// Prints `2024-03-31T02:00:00`.
+// No ghost member says so: that six padded numbers come to that text stayed open in the proof; a test and the programs' output show it.
 impl fmt::Display for Stamp {
     fn fmt<W: fmt::Write>(&self, f: &mut fmt::Formatter<W>) -> fmt::Result {
         let Stamp {
@@ -41,6 +44,8 @@ pub struct Seconds(pub i64);
 pub struct InvalidStamp;
 
 impl fmt::Display for InvalidStamp {
+    ghost output = { λ _. Some (codes "no such date and time of day") };
+
     fn fmt<W: fmt::Write>(&self, f: &mut fmt::Formatter<W>) -> fmt::Result {
         f.write_str("no such date and time of day")
     }
@@ -53,6 +58,8 @@ impl Error for InvalidStamp {}
 pub struct AnotherYear;
 
 impl fmt::Display for AnotherYear {
+    ghost output = { λ _. Some (codes "another year") };
+
     fn fmt<W: fmt::Write>(&self, f: &mut fmt::Formatter<W>) -> fmt::Result {
         f.write_str("another year")
     }

@@ -17,6 +17,7 @@ use slots::answers::Answer;
 use zone::refusals::Refusal;
 use zone::rows::{Instant, Interval};
 
+// What a call leaves, the provider and a client in order, stands in each contract and is no invariant: a client over a provider that is not in order is a client too.
 impl<P: Provider> Client<P> {
     /// Begins a fetch of the zone over the interval, and answers the pending fetch. Refused with 1, 2, 3, with 8 where the zone has a pending fetch already, and with 9 where all slots are taken by other zones.
     pub fn begin(&mut self, name: Name, interval: Interval) -> Result<PendingFetch, Refusal>

@@ -7,8 +7,10 @@ use zone::rows::Interval;
 
 /// A fetch that was begun: the number of its slot and its interval. It must end in a collect that is accepted or in an abandon; letting it fall is refused when the program is checked.
 pub struct PendingFetch {
+    // No ghost field says that the slot is one of sixteen: the definitions speak of the token of any number, which would then need the bound too.
     pub(crate) slot: usize,
     pub(crate) interval: Interval,
+    // A flag: it is a rule of the project that the drop demands that the token was spent.
     pub(crate) spent: bool,
 }
 

@@ -45,6 +45,7 @@ impl<P: Provider> Session<P> {
         }
     }
 
+    // Collect and abandon are two: each names its own rule in its contract, and what they share is in `take` and `hand_back`.
     fn collect(&mut self, name: Name) -> Outcome
         ensures { Performs P.Provider (source P.Provider) (collect name) self.old self.new (report_of result) }
     {

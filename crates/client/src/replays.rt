@@ -46,6 +46,7 @@ fn replay_items<P: Provider + Drop, I: Item<P>>(
 {
     let mut outcomes = Vec::with_capacity(heap, items.len())?;
     let mut session = Session::new(heap, provider)?;
+    // A `for` with `push_reserved`: the memory for all outcomes is taken before the first call.
     for item in items {
         let outcome = item.make(&mut session);
         outcomes.push_reserved(outcome);

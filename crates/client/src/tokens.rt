@@ -48,6 +48,7 @@ impl<P: Provider> Session<P> {
         client.into_provider()
     }
 
+    // The slot stands beside its token: that the token names it is known of a client in order alone.
     // Takes the zone's pending fetch, and answers its slot.
     pub(crate) fn take(&mut self, name: &Name) -> Option<(usize, PendingFetch)>
         ensures taken { result ≡ token_at self.old.tokens.items (place_of (state_in self.old.client) name.now) }

@@ -14,8 +14,7 @@ fn day(word: &[u8]) -> Option<Observance>
     ensures { result ≡ day_of word.now }
 {
     match word {
-        [b'0'] => Some(Observance::Standard),
-        [b'1'] => Some(Observance::Daylight),
+        [digit @ b'0'..=b'9'] => Observance::try_from(*digit - b'0').ok(),
         _ => None,
     }
 }
@@ -36,6 +35,7 @@ fn row(mut words: Words<'_>) -> Option<Row>
     })
 }
 
+// Two functions follow, and no generic one for two words: each is three lines, and a pair would have to be taken apart again.
 // The storage of two words.
 fn storage(mut words: Words<'_>) -> Option<Storage>
     ensures { result ≡ storage_of words.entry }

@@ -3,6 +3,7 @@ use client::listing::Call;
 use names::name::Name;
 use zone::rows::{Interval, Row};
 
+// No type of the root's: a script is read without the root.
 /// The storage of the root: so many entries, and so many rows.
 #[derive(Clone, Copy)]
 pub struct Storage {
@@ -24,6 +25,7 @@ pub enum Command {
     Store(Storage),
     /// `span START END`: the truncation's span.
     Truncate(Interval),
+    // These two have no marks with them: each function that makes a command would carry the line's lifetime.
     /// `uplink MARKS`: the fates of the line below the relay; the marks are the line's second word.
     Uplink,
     /// `downlink MARKS`: those of the line above the relay.

@@ -1,4 +1,4 @@
-// What the program prints.
+// What the program prints. The words are this program's, so they are no `Display` of the client's types.
 use calendar::dates::{Seconds, Stamp};
 use client::listing::{Call, Entry, Outcome};
 use script::scripts::Script;

@@ -1,5 +1,5 @@
 // Offsets from UTC, read from their texts and printed.
-// Functions, as for stamps, and no `TryFrom`: a stamp is another crate's type, so its conversions from and to texts cannot be impls here.
+// Functions and no `TryFrom`, as for stamps, whose type is another crate's. The digits are put one by one: a text has a fixed place for each, and takes no heap.
 ghost use Rattle.std.specs.Prelude.{◌≡◌, ◌<◌};
 ghost use Rattle.fields.specs.Offsets.{ClockRead, Printed, Signed, parsed};
 

@@ -1,5 +1,5 @@
 // Dates with times, read from their texts and printed.
-// Functions and no `TryFrom`: a stamp is another crate's type, so its conversions from and to texts cannot be impls here.
+// Functions and no `TryFrom`: a stamp is another crate's type, so its conversions from and to texts cannot be impls here. The digits are put one by one: a text has a fixed place for each, and takes no heap.
 ghost use Rattle.std.specs.Prelude.{◌≡◌};
 ghost use Rattle.fields.specs.Stamps.{DigitsRead, StampPrinted, stamp_read};
 

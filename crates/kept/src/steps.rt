@@ -11,6 +11,7 @@ pub enum Step {
     Serve { edition: Edition },
     /// The kept page answers as of this edition, which is its edition from now on.
     Renew { edition: Edition },
+    // Edition and tag apart, as `Reply::Fresh` has them.
     /// The fresh page answers, and is kept where there is a place for it.
     Take { edition: Edition, tag: Tag },
 }

@@ -34,6 +34,7 @@ impl Place {
     }
 }
 
+// Much like the client's slots: what is alike is the library's (searches, swaps), and one type for both would say the rules of neither.
 impl Places {
     /// Eight free places, with all the memory that they will ever take.
     pub fn new(heap: Global) -> Result<Places, AllocError>

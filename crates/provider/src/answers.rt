@@ -37,6 +37,7 @@ impl Request {
     }
 }
 
+// Two functions: these rows are tested and may be cut to too many, while a window keeps its facts. What an answer leaves in the window that is lent stands in each contract, since it is about no value of its own.
 /// The answer from a page of rows over the interval `of`. Refused with 13 where the rows are no table's, with 3 where the interval asked for is not inside, with 6 where its cut has too many rows.
 pub fn answer_rows(
     of: Interval,

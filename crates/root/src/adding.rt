@@ -16,7 +16,7 @@ use zone::windows::Table;
 /// The highest number of an edition.
 pub const LAST_EDITION: usize = 65_535;
 
-// Puts the rows after those that are stored. A `for`, and no `extend_from_slice`, which does not promise that the storage stays as large; and the customer asks for rows to be walked so.
+// Puts the rows after those that are stored. A `for` with `push_reserved`: it is a rule of the project that rows are walked so, and that no memory is asked for here.
 fn store(rows: &[Row], storage: &mut Vec<Row>)
     requires { vec_len storage.old + length rows.now ≤ vec_capacity storage.old }
     ensures items { storage.new.items ≡ storage.old.items ++ rows.now }
@@ -38,6 +38,7 @@ impl Root {
             && self.entries.len() < LAST_EDITION
     }
 
+    // That a number is left is asked by the three that count on it: a root may also be full.
     // The tag of rows that are published next for the name.
     fn next_tag(&self, name: &Name, rows: &[Row]) -> Tag
         requires { vec_len self.now.entries < last_edition }

@@ -10,7 +10,7 @@ use names::name::Name;
 use provider::requests::Edition;
 use zone::rows::Row;
 
-// The latest entry of the name, by a `for` over the entries, as the customer asks for it.
+// The latest entry of the name, by a `for` over the entries: it is a rule of the project that the log is searched so.
 pub(crate) fn latest_of<'a>(entries: &'a [Entry], name: &Name) -> Option<&'a Entry>
     ensures within { IfSome result (λ entry. Contains entries.now entry.now) }
     ensures latest { (storage : List Row) → latest name.now (log entries.now storage) ≡ option_map (λ entry. publication storage entry.now) result }

@@ -46,6 +46,7 @@ pub enum Fault {
 #[derive(Clone, Copy, PartialEq, Eq, Debug)]
 pub(crate) struct Misplaced;
 
+// Beside `Fault`: the number of a line is known to the loop over the lines alone.
 /// Why a line was not taken.
 #[derive(Clone, Copy, PartialEq, Eq, Debug)]
 pub(crate) enum Trouble {

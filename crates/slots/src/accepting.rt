@@ -119,6 +119,7 @@ impl Slot {
 }
 
 impl Slots {
+    // A slot's number and an interval are two parameters: together they are the client's pending fetch, which the slots do not see.
     /// The request that a collect sends for the slot: none where the slot is not pending with the interval.
     pub fn request(&self, i: usize, interval: Interval) -> Option<Request>
         ensures { result ≡ request_for (slice_index_or (cells_of self.now) i free) interval }

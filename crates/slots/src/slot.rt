@@ -7,6 +7,7 @@ use zone::rows::Interval;
 use zone::windows::Window;
 
 /// A slot: the zone that owns it, the version that its window holds, and the interval of the zone's pending fetch.
+// Three options, as the rules' cell has them; the window stands beside, since its memory is taken once.
 #[derive(Drop)]
 pub(crate) struct Slot {
     pub(crate) owner: Option<Name>,

@@ -45,6 +45,7 @@ impl Slot {
     }
 }
 
+// Much like a relay's places: what is alike is the library's (searches, swaps), and one type for both would say the rules of neither.
 impl Slots {
     /// Sixteen free slots over a floor, with all the memory that they will ever take.
     pub fn new(heap: Global, floor: Edition) -> Result<Slots, AllocError>

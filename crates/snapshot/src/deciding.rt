@@ -50,6 +50,7 @@ fn do_rise(zones: &[Zone]) -> bool
     zones.is_sorted_by(Zone::is_ahead)
 }
 
+// Edition, span and zones stand apart here: `Contents` holds them together, once they passed this test.
 // Whether these make a good snapshot.
 pub(crate) fn are_good(edition: Edition, span: Interval, zones: &[Zone]) -> bool
     ensures { result ≡ is_good edition span zones.now }

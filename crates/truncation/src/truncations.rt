@@ -92,6 +92,7 @@ impl<P: Publishing> Publishing for Truncation<P> {
 
     /// Publishes a table over the era for the name, and answers the number of the new edition.
     fn publish(&mut self, name: Name, table: &Table) -> Result<Edition, Refusal> {
+        // A refusal from below passes up by `?`, with the edition that it names.
         Ok(self.below.publish(name, table)?)
     }
 }

@@ -4,6 +4,7 @@ ghost use Rattle.zone.specs.Comparing.{ComparisonsStand, same_rows as the_same};
 
 use super::rows::Row;
 
+// `==` of slices, under the name that the definition has.
 /// Whether the two lists of rows are the same, row by row.
 #[tactic(auto, using(crate::proofs::Compared::derived_rows))]
 pub fn same_rows(a: &[Row], b: &[Row]) -> bool

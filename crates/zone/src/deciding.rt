@@ -38,7 +38,7 @@ fn are_small(rows: &[Row]) -> bool
     rows.iter().all(|row| is_small(*row))
 }
 
-// An interval and rows are two parameters, here and in `cutting`: they lie in a `Vec`, an array or a part of one, and a struct that borrows the rows would put one more name into each clause and make none plainer.
+// An interval and rows are two parameters, here, in `cutting` and in `provider`: they lie in a `Vec`, an array or a part of one, and a struct that borrows the rows would put one more name into each clause and make none plainer.
 
 /// Whether the rows cover the interval.
 pub fn do_cover(rows: &[Row], interval: Interval) -> bool

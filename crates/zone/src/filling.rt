@@ -41,7 +41,7 @@ impl Window {
             return Err(NotAWindow);
         }
         self.rows.clear();
-        let _ = self.rows.extend_from_slice(rows);
+        self.rows.extend_from_slice(rows).unwrap();
         self.interval = interval;
         Ok(())
     }

@@ -1,4 +1,4 @@
-// The text of a zone over a window: a condensed VTIMEZONE, read and written.
+// The text of a zone over a window, a condensed VTIMEZONE: what it is, and the reader.
 #![tactic(auto)]
 
 pub mod laws;

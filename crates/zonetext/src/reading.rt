@@ -46,6 +46,7 @@ fn scan<'a>(text: &'a [u8]) -> Result<Reader<'a>, usize>
 {
     let mut reader = Reader::new();
     let mut at = 0;
+    // By offset, and no iterator over lines: a refusal tells the byte at which its line begins.
     while let Some(n) = line_end(&text[at..]) {
         let line = parts(&text[at..at + n]).ok_or(at)?;
         reader.step(line).ok_or(at)?;

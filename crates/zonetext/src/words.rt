@@ -1,4 +1,4 @@
-// The fixed names of the text, which the reader compares and the writer puts.
+// The fixed names of the text, which the reader here compares and the writer of `zonewriter` puts.
 
 /// Ends a line.
 pub const CR_LF: &[u8] = b"\r\n";

@@ -3,6 +3,10 @@ ghost use Rattle.std.specs.Prelude.{◌≡◌, ◌+◌, ◌≤◌, length};
 ghost use Rattle.zonetext.specs.Writing.{line_text};
 ghost use Rattle.zonewriter.specs.Puts.{HasRoom, Puts};
 
+use zonetext::words::CR_LF;
+
+// That the buffer stays the one that was lent stands in each contract beside `Puts`: it is about the reference, and `Puts` about the bytes.
+// No `io::Write` of a slice: its contract does not say which bytes were put.
 /// A buffer that is lent, and how many of its bytes are written.
 #[derive(Drop)]
 pub(crate) struct Writer<'a> {
@@ -40,6 +44,6 @@ impl<'a> Writer<'a> {
         self.put(name);
         self.put(b":");
         self.put(value);
-        self.put(b"\r\n");
+        self.put(CR_LF);
     }
 }

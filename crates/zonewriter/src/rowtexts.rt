@@ -13,6 +13,7 @@ use zonetext::words::*;
 const ROW_BYTES: usize = 83;
 
 impl Writer<'_> {
+    // That a row is writable is asked by name: of a window's rows its ghost fields tell it, and other rows come to no function here.
     /// Puts the text of a row.
     #[tactic(auto, using(crate::proofs::Rowing::row_lengths))]
     pub(crate) fn row(&mut self, row: Row)
