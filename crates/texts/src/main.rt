@@ -20,6 +20,7 @@ fn run(
     window: &mut Window,
     buffer: &mut [u8],
 ) -> anyhow::Result<()> {
+    // By what is left of the input, and no iterator over texts: one at fault ends the run with the byte where it stands.
     let mut rest = input;
     while !rest.is_empty() {
         let Some(part) = first_text(rest) else {
