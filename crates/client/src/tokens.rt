@@ -61,6 +61,7 @@ impl<P: Provider> Session<P> {
         Some((slot, pending))
     }
 
+    // The slot is a plain number, as the search of the slots answers it.
     // Keeps the pending fetch of a slot; no client waits for one that stood there.
     pub(crate) fn keep(&mut self, slot: usize, pending: PendingFetch)
         requires { slot < 16 }

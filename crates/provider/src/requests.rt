@@ -20,7 +20,7 @@ pub struct Version {
 pub struct Request {
     pub name: Name,
     pub interval: Interval,
-    // A number and no Option: 0 for none is how a request is asked for, and no page has the tag 0.
+    // A number and no Option: by the rules 0 stands for none, and no page has the tag 0.
     pub known: Tag,
 }
 
@@ -29,6 +29,7 @@ pub struct Request {
 pub enum Reply {
     /// The page of this edition has the known tag; the lent window is as it was.
     Unchanged { edition: Edition },
+    // Edition and tag apart, and no `Version`: who matches on a reply takes the edition, and seldom the tag.
     /// The lent window holds the cut of this edition's page, which has this tag.
     Fresh { edition: Edition, tag: Tag },
 }

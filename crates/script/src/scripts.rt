@@ -16,11 +16,12 @@ pub struct Setup<'a> {
 #[derive(Drop)]
 pub struct Script<'a> {
     pub setup: Setup<'a>,
-    // The names stand in a list of their own, since the client takes the calls as a slice of entries.
+    // The names stand in a list of their own: the client takes the calls as a slice of entries, and of a list of both one would have to be made, which takes memory.
     pub entries: Vec<Entry>,
     pub names: Vec<&'a [u8]>,
 }
 
+// Calls and names in two lists, as `Script` has them.
 /// A script while it is read: what was set so far, the rows gathered for the next table, and the calls so far with their names.
 #[derive(Drop)]
 pub struct Draft<'a> {
