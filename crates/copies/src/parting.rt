@@ -22,6 +22,7 @@ fn next_number(n: usize, byte: u8) -> Option<usize>
     (next <= MOST_BYTES).then_some(next)
 }
 
+// Digit by digit: the library's parse would want a test of the sign before it and of the limit after it, and be no plainer.
 // The number that the digits spell, one or more.
 fn number(digits: &[u8]) -> Option<usize>
     ensures { result ≡ number_told digits.now }

@@ -1,5 +1,5 @@
 // Offsets from UTC, read from their texts and printed.
-// Functions and no `TryFrom`, as for stamps, whose type is another crate's. The digits are put one by one: a text has a fixed place for each, and takes no heap.
+// Functions and no `TryFrom`: it would need an error type that says no more than `None` does, and stamps, whose type is another crate's, cannot have it. The digits are put one by one: a text has a fixed place for each, and takes no heap.
 ghost use Rattle.std.specs.Prelude.{◌≡◌, ◌<◌};
 ghost use Rattle.fields.specs.Offsets.{ClockRead, Printed, Signed, parsed};
 

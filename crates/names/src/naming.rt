@@ -34,7 +34,7 @@ pub fn is_name_text(text: &[u8]) -> bool
 
 impl Name {
     /// The name with this text; 48 zero bytes, which are no valid name, where the text is no name's.
-    // No Option: a name that is none is handed on, and the call that gets it refuses it.
+    // No Option: by the rules anything may stand in a name's bytes and the calls check it, so a word that is no name comes to refusal 1.
     pub fn from_text(text: &[u8]) -> Name
         ensures { result.bytes ≡ held text.now }
     {

@@ -29,7 +29,7 @@ pub struct Request {
 pub enum Reply {
     /// The page of this edition has the known tag; the lent window is as it was.
     Unchanged { edition: Edition },
-    // Edition and tag apart, and no `Version`: who matches on a reply takes the edition, and seldom the tag.
+    // Edition and tag apart, as the definitions have them: a `Version` would be taken apart in each of their cases.
     /// The lent window holds the cut of this edition's page, which has this tag.
     Fresh { edition: Edition, tag: Tag },
 }

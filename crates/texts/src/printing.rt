@@ -1,4 +1,4 @@
-// What the program prints.
+// What the program prints. The words are this program's, so they are no `Display` of the types.
 use anyhow::bail;
 use copies::copied::Copied;
 use zone::rows::{Interval, Row};
