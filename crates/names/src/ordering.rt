@@ -6,7 +6,7 @@ use super::name::Name;
 
 impl Name {
     /// Whether this name comes strictly before the other in byte order.
-    // As the derived `<` tells, but in a loop, which takes less than half of its time.
+    // As the derived `<` tells, but in a loop, as names are compared; it takes less time than that.
     pub fn is_before(&self, other: &Name) -> bool
         ensures { result ≡ before self.now.bytes other.now.bytes }
     {

@@ -37,10 +37,7 @@ impl<P: Provider> Relay<P> {
         ensures order { IfOk result (λ relay. P.Provider.in_order below → P.Provider.in_order relay.below × AllFrom (meaning P.Provider relay.below) (kept relay.places)) }
         ensures turn { IfOk result (λ relay. (n : Name) (i : Interval) → relay_turn (kept relay.places) (P.Provider.turn relay.below) n i ≡ P.Provider.turn below n i) }
     {
-        let Ok(places) = Places::new(heap) else {
-            return Err(AllocFailed { value: below });
-        };
-        let Ok(scratch) = Window::new(heap) else {
+        let (Ok(places), Ok(scratch)) = (Places::new(heap), Window::new(heap)) else {
             return Err(AllocFailed { value: below });
         };
         Ok(Relay {
