@@ -16,9 +16,13 @@ impl Stamp {
     pub fn is_valid(self) -> bool
         ensures { IsTrue result ↔ Valid self }
     {
-        (1899..=2100).contains(&self.year)
-            && (1..=12).contains(&self.month)
-            && (1..=days_in_month(self.year, self.month)).contains(&self.day)
+        // Compared one by one, since `contains` of three ranges takes longer.
+        1899 <= self.year
+            && self.year <= 2100
+            && 1 <= self.month
+            && self.month <= 12
+            && 1 <= self.day
+            && self.day <= days_in_month(self.year, self.month)
             && self.hour < 24
             && self.minute < 60
             && self.second < 60

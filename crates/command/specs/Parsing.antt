@@ -30,7 +30,7 @@ below : (ds : List ℕ) (n : ℕ) → Decides (numeral ds && ltb (value ds) n) (
 below ds n = grind (arith, nat_tests)
 
 -- what `parse` answers where no plus sign stands in front
-parsed : {E : Type 0} (w : Width) (bs : List ℕ) (r : Result ℤ E) → ParsesSigned w 10 bs r → get_or bs 0 0 ≢ 43 → result_ok r ≡ number (hbits w) bs
+pub parsed : {E : Type 0} (w : Width) (bs : List ℕ) (r : Result ℤ E) → ParsesSigned w 10 bs r → get_or bs 0 0 ≢ 43 → result_ok r ≡ number (hbits w) bs
 parsed w bs r h p = elim (cases_Bool (minus bs)) [
   | inl y ↦ rw y (chosen r _ _ _ (parse_signed_minus own w bs r h (eqb-true _ _ y)) (at_most (drop 1 bs) (2 ^ hbits w)))
   | inr n ↦ rw n (chosen r _ _ _ (parse_signed_plain own w bs r h p (eqb-false _ _ n)) (below bs (2 ^ hbits w)))
@@ -50,7 +50,7 @@ digits_of : (ds : List ℕ) (b : Bool) → (numeral ds && b) ≡ true → all_as
 digits_of ds b h = (and_parts (ltb 0 (length ds)) (all_ascii_digits ds) (and_parts (numeral ds) b h).0).1
 
 -- bytes that are no text spell no number
-unread : (k : ℕ) (bs : List ℕ) → ¬ (IsUtf8 bs) → number k bs ≡ None
+pub unread : (k : ℕ) (bs : List ℕ) → ¬ (IsUtf8 bs) → number k bs ≡ None
 unread k [] bad = absurd (bad IsUtf8-nil)
 unread k (b ∷ bs) bad = elim (cases_Bool (eqb b 45)) [
   | inl y ↦ elim (cases_Bool (numeral bs && leb (value bs) (2 ^ k))) [
@@ -64,7 +64,7 @@ unread k (b ∷ bs) bad = elim (cases_Bool (eqb b 45)) [
 ]
 
 -- a word with a plus sign in front spells no number
-plus_none : (k : ℕ) (bs : List ℕ) → plus bs ≡ true → number k bs ≡ None
+pub plus_none : (k : ℕ) (bs : List ℕ) → plus bs ≡ true → number k bs ≡ None
 plus_none k [] h = refl
 plus_none k (b ∷ bs) h =
     let e = eqb-true b 43 h in
@@ -74,13 +74,13 @@ plus_none k (b ∷ bs) h =
     rw (m, f)
 
 -- digits alone likewise
-uncounted : (bs : List ℕ) → ¬ (IsUtf8 bs) → count bs ≡ None
+pub uncounted : (bs : List ℕ) → ¬ (IsUtf8 bs) → count bs ≡ None
 uncounted bs bad = elim (cases_Bool (numeral bs && ltb (value bs) (2 ^ 64))) [
   | inl t ↦ absurd (bad (IsUtf8-from_ascii bs (ascii_digits bs (digits_of bs _ t))))
   | inr n ↦ rw n
 ]
 
-plus_uncounted : (bs : List ℕ) → plus bs ≡ true → count bs ≡ None
+pub plus_uncounted : (bs : List ℕ) → plus bs ≡ true → count bs ≡ None
 plus_uncounted [] h = refl
 plus_uncounted (b ∷ bs) h =
     let e = eqb-true b 43 h in

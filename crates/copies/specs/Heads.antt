@@ -20,16 +20,6 @@ most_bytes = 1000000000
 abbrev pub one_more : ℕ → ℕ → Option ℕ
 one_more n b = if is_digit b && nat_le (next n b) most_bytes then Some (next n b) else None
 
--- the number that the digits spell after those of n
-abbrev pub number_after : ℕ → List ℕ → Option ℕ
-number_after n [] = Some n
-number_after n (b ∷ bs) = if is_digit b && nat_le (next n b) most_bytes then number_after (next n b) bs else None
-
--- the number that the digits spell, one or more
-abbrev pub number_told : List ℕ → Option ℕ
-number_told [] = None
-number_told (b ∷ bs) = number_after 0 (b ∷ bs)
-
 -- the number that the digits before the first LF spell after those of n, and the bytes after the LF
 abbrev pub counted_after : ℕ → List ℕ → Option (ℕ × List ℕ)
 counted_after n [] = None

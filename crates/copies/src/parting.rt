@@ -1,6 +1,6 @@
 // The first text of the input, by the head line before it.
 ghost use Rattle.std.specs.Prelude.{◌≡◌, ◌<◌, ◌≤◌, length, IfSome};
-ghost use Rattle.copies.specs.Heads.{first, head_seen, most_bytes, number_after, number_told, one_more, part_seen, told};
+ghost use Rattle.copies.specs.Heads.{counted_after, first, head_seen, most_bytes, one_more, part_seen, told};
 
 use super::heads::{Head, Part};
 
@@ -22,19 +22,20 @@ fn next_number(n: usize, byte: u8) -> Option<usize>
     (next <= MOST_BYTES).then_some(next)
 }
 
-// Digit by digit: the library's parse would want a test of the sign before it and of the limit after it, and be no plainer.
-// The number that the digits spell, one or more.
-fn number(digits: &[u8]) -> Option<usize>
-    ensures { result ≡ number_told digits.now }
+// The number that the digits before the first LF spell, and the bytes after the LF. Digit by digit, so that no byte is looked at past the first that is wrong, however far the LF is.
+fn count(bytes: &[u8]) -> Option<Head<'_>>
+    ensures is { head_seen result ≡ counted_after 0 bytes.now }
+    ensures shorter { IfSome result (λ h. length h.rest.now < length bytes.now) }
 {
-    if digits.is_empty() {
-        return None;
+    let mut len = 0;
+    for (i, byte) in bytes.iter().enumerate() {
+        if *byte == b'\n' {
+            let rest = &bytes[i + 1..];
+            return Some(Head { len, rest });
+        }
+        len = next_number(len, *byte)?;
     }
-    let mut n = 0;
-    for digit in digits {
-        n = next_number(n, *digit)?;
-    }
-    Some(n)
+    None
 }
 
 // What the head line tells that the bytes begin with, if they begin with one.
@@ -43,10 +44,10 @@ fn head(bytes: &[u8]) -> Option<Head<'_>>
     ensures shorter { IfSome result (λ h. length h.rest.now < length bytes.now) }
 {
     let line = bytes.strip_prefix(WORD)?;
-    let end = line.iter().position(|byte| *byte == b'\n')?;
-    let len = number(&line[..end])?;
-    let rest = &line[end + 1..];
-    Some(Head { len, rest })
+    if line.is_empty() || !line[0].is_ascii_digit() {
+        return None;
+    }
+    count(line)
 }
 
 /// The text that the input begins with, after its head line, and the bytes after it; none where the input begins with no head line, or has fewer bytes than it tells.

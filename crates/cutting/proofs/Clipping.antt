@@ -9,7 +9,7 @@ use Rattle.std.proofs.lemmas.List.Sums.{length-filter, count_by-le-length}
 use Rattle.zone.specs.declared.rows.Interval.{Interval}
 use Rattle.zone.specs.declared.rows.Row.{Row}
 use Rattle.zone.specs.Intervals.{within, has_instant}
-use Rattle.zone.specs.Rows.{Offset}
+use Rattle.zone.specs.Rows.{Covers, Offset}
 use Rattle.cutting.specs.Cutting.{later, in_force, opening, begins_inside, by_row, local}
 use Rattle.cutting.specs.Cutting as the
 use Rattle.cutting.specs.Laws.{CutsAgree}
@@ -208,3 +208,18 @@ within_trans i o p h k =
     let b = within_parts o p k in
     and_from (le_z p.start i.start) (lt_z i.start i.end && le_z i.end p.end) (le_yes p.start i.start (omega (arith, ints, a, b)))
     (and_from (lt_z i.start i.end) (le_z i.end p.end) (lt_yes i.start i.end a.1) (le_yes i.end p.end (omega (arith, ints, a, b))))
+
+-- an instant of an interval inside
+pub instant_within : (i o : Interval) (t : ℤ) → within i o ≡ true → has_instant i t ≡ true → has_instant o t ≡ true
+instant_within i o t h k =
+    let a = within_parts i o h in
+    let b = instant_parts i t k in
+    and_from (le_z o.start t) (lt_z t o.end) (le_yes o.start t (omega (arith, ints, a, b))) (lt_yes t o.end (omega (arith, ints, a, b)))
+
+-- the row in force has offsets in range
+pub in_force_small : (i : Interval) (rows : List Row) (t : ℤ) → Covers i rows → Offset (in_force rows t).to
+in_force_small i rows t c = go rows (run_of i rows c) (offsets_from rows c.small)
+  where
+    go : (xs : List Row) → Run xs i.start i.end → Offsets xs → Offset (in_force xs t).to
+    go [] r o = absurd r
+    go (x ∷ xs) r o = (in_force_all (λ (y : Row). Offset y.from × Offset y.to) t x xs o.0 o.1).1

@@ -3,6 +3,8 @@ use calendar::dates::{Seconds, Stamp};
 use client::listing::{Call, Entry, Outcome};
 use script::scripts::Script;
 use slots::answers::Answer;
+use std::fmt;
+use zone::rows::Instant;
 
 // The word of a call.
 fn verb(entry: &Entry) -> &'static str {
@@ -18,32 +20,62 @@ fn verb(entry: &Entry) -> &'static str {
     }
 }
 
-// Prints the answer to a query.
-fn print_answer(rt: &HostRuntime, answer: Answer) -> anyhow::Result<()> {
+// The instant that a query asks for, as ` 1711846800`; of another call nothing is shown.
+#[derive(Clone, Copy)]
+struct Asked {
+    at: Option<Instant>,
+}
+
+impl Asked {
+    fn by(entry: &Entry) -> Asked {
+        let at = match entry {
+            Entry::Call {
+                call: Call::Query { at, .. },
+            } => Some(*at),
+            _ => None,
+        };
+        Asked { at }
+    }
+}
+
+impl fmt::Display for Asked {
+    fn fmt<W: fmt::Write>(&self, f: &mut fmt::Formatter<W>) -> fmt::Result {
+        match self.at {
+            Some(Instant(at)) => write!(f, " {at}"),
+            None => Ok(()),
+        }
+    }
+}
+
+// Prints the answer to a query. The rest of a line goes out in one `println!`, here and below, since each print is a write of its own.
+fn print_answer(rt: &HostRuntime, asked: Asked, answer: Answer) -> anyhow::Result<()> {
     let edition = answer.edition;
     let time = answer.local.time;
     let offset = answer.local.offset;
     let day = u8::from(answer.local.observance);
-    print!(rt; "edition {edition} local {time} offset {offset} day {day} at ")?;
     match Stamp::try_from(Seconds(time)) {
-        Ok(stamp) => println!(rt; "{stamp}")?,
-        Err(another_year) => println!(rt; "{another_year}")?,
+        Ok(stamp) => println!(rt;
+            "{asked}: edition {edition} local {time} offset {offset} day {day} at {stamp}"
+        )?,
+        Err(another_year) => println!(rt;
+            "{asked}: edition {edition} local {time} offset {offset} day {day} at {another_year}"
+        )?,
     }
     Ok(())
 }
 
-// Prints what a call came to.
-fn print_outcome(rt: &HostRuntime, outcome: Outcome) -> anyhow::Result<()> {
+// Prints what a call came to, after what it asks for.
+fn print_outcome(rt: &HostRuntime, asked: Asked, outcome: Outcome) -> anyhow::Result<()> {
     match outcome {
-        Outcome::Began { slot, .. } => println!(rt; "slot {slot}")?,
-        Outcome::Collected { edition } => println!(rt; "edition {edition}")?,
-        Outcome::Abandoned => println!(rt; "done")?,
-        Outcome::Forgotten => println!(rt; "done")?,
-        Outcome::Answered { answer } => print_answer(rt, answer)?,
-        Outcome::Published { edition } => println!(rt; "edition {edition}")?,
-        Outcome::Refused { refusal } => println!(rt; "{refusal}")?,
-        Outcome::HandedBack { refusal, .. } => println!(rt; "{refusal}")?,
-        Outcome::NotPending => println!(rt; "no pending fetch")?,
+        Outcome::Began { slot, .. } => println!(rt; "{asked}: slot {slot}")?,
+        Outcome::Collected { edition } => println!(rt; "{asked}: edition {edition}")?,
+        Outcome::Abandoned => println!(rt; "{asked}: done")?,
+        Outcome::Forgotten => println!(rt; "{asked}: done")?,
+        Outcome::Answered { answer } => print_answer(rt, asked, answer)?,
+        Outcome::Published { edition } => println!(rt; "{asked}: edition {edition}")?,
+        Outcome::Refused { refusal } => println!(rt; "{asked}: {refusal}")?,
+        Outcome::HandedBack { refusal, .. } => println!(rt; "{asked}: {refusal}")?,
+        Outcome::NotPending => println!(rt; "{asked}: no pending fetch")?,
     }
     Ok(())
 }
@@ -53,15 +85,7 @@ fn print_one(rt: &HostRuntime, entry: &Entry, name: &[u8], outcome: Outcome) -> 
     let verb = verb(entry);
     print!(rt; "{verb} ")?;
     rt.write_all(name)?;
-    if let Entry::Call {
-        call: Call::Query { at, .. },
-    } = entry
-    {
-        let at = at.0;
-        print!(rt; " {at}")?;
-    }
-    print!(rt; ": ")?;
-    print_outcome(rt, outcome)
+    print_outcome(rt, Asked::by(entry), outcome)
 }
 
 /// Prints the calls of a script and what they came to, in order.

@@ -1,7 +1,7 @@
 -- The text of an offset from UTC, and the offset that a text says.
-use Rattle.std.specs.Prelude.{◌≡◌, ℕ, ◌+◌, ◌*◌, ◌/◌, ◌%◌, ◌<◌, Bool, if◌then◌else◌, ◌⊎◌, List, [], ◌∷◌, ◌++◌, length, ℤ, pos, negsuc, neg_ℤ, Some, None, Option, ◌==◌, ◌≢◌, nat_lt, slice_index, unsigned_abs}
-use Rattle.arrayvec.specs.ArrayVec.{ArrayVec}
+use Rattle.std.specs.Prelude.{◌≡◌, ℕ, ◌+◌, ◌-◌, ◌*◌, ◌/◌, ◌%◌, ◌<◌, Bool, if◌then◌else◌, ◌⊎◌, List, [], ◌∷◌, ◌++◌, length, take, drop, replicate, ℤ, pos, negsuc, neg_ℤ, Some, None, Option, ◌==◌, ◌≢◌, nat_lt, slice_index, unsigned_abs}
 use Rattle.fields.specs.declared.types.Offset.{Offset}
+use Rattle.fields.specs.declared.types.OffsetText.{OffsetText}
 use Rattle.fields.specs.Digits.{two, number_at, checked, TwoSay}
 
 -- an offset by its seconds
@@ -71,12 +71,14 @@ abbrev pub Signed : ℕ → ℕ → Option Offset → Type 0
 Signed b n None = (z : Offset) → SignSays b n z → ⊥
 Signed b n (Some z) = SignSays b n z
 
--- an offset in range is printed
-pub record PrintedAs (z : Offset) (t : ArrayVec ℕ) : Type 0 where
+-- an offset in range is printed: its text stands first, and after it zero digits
+pub record PrintedAs (z : Offset) (t : OffsetText) : Type 0 where
   pub range : InDay z
-  pub text : t.items ≡ printed z
+  pub len : t.len ≡ length (printed z)
+  pub text : take t.len t.bytes ≡ printed z
+  pub rest : drop t.len t.bytes ≡ replicate (7 - t.len) 48
 
 -- the print of an offset: none exactly if it is a day or more
-abbrev pub Printed : Offset → Option (ArrayVec ℕ) → Type 0
+abbrev pub Printed : Offset → Option OffsetText → Type 0
 Printed z None = InDay z → ⊥
 Printed z (Some t) = PrintedAs z t

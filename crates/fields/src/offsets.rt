@@ -56,9 +56,7 @@ pub fn print_offset(offset: Offset) -> Option<OffsetText>
     let h = (size / 3600) as u8;
     let m = (size / 60 % 60) as u8;
     let s = (size % 60) as u8;
-    let mut text = OffsetText::from([sign, tens(h), ones(h), tens(m), ones(m), tens(s), ones(s)]);
-    if s == 0 {
-        text.truncate(5);
-    }
-    Some(text)
+    let bytes = [sign, tens(h), ones(h), tens(m), ones(m), tens(s), ones(s)];
+    let len = if s == 0 { 5 } else { 7 };
+    Some(OffsetText { bytes, len })
 }

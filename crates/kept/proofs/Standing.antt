@@ -26,7 +26,7 @@ one_name x y None h g = cc
 one_name x y (Some k) h g = sym (same_name_is k.name x h) ∙ same_name_is k.name y g
 
 -- where none was found, none passes
-none_passes : (test : Option Kept → Bool) (ps : List (Option Kept)) → test None ≡ false → position test ps ≡ None → (i : ℕ) → test (get_or ps i None) ≡ false
+pub none_passes : (test : Option Kept → Bool) (ps : List (Option Kept)) → test None ≡ false → position test ps ≡ None → (i : ℕ) → test (get_or ps i None) ≡ false
 none_passes test [] n h i = n
 none_passes test (p ∷ ps) n h i = by (test p) (position test ps) refl refl (sym (position_cons test p ps) ∙ h) (none_passes test ps n) i
   where

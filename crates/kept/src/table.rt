@@ -2,7 +2,8 @@
 ghost use Rattle.std.specs.Prelude.{◌≡◌, ◌<◌, IfSome, IfOk, None, position};
 ghost use Rattle.kept.specs.Keeping.{is_free as free_there, is_of as kept_of, kept, kept_in, none_kept, place_for, place_of};
 
-use super::places::{PLACES, Place, Places};
+pub use super::places::PLACES;
+use super::places::{Place, Places};
 use names::name::Name;
 use std::alloc::{AllocError, Global};
 use std::array;

@@ -1,5 +1,6 @@
 // A zone's name.
 ghost use Rattle.std.proofs.Common.{rules};
+ghost use Rattle.std.specs.Prelude.{◌≡◌, Decides};
 ghost use Rattle.std.specs.Cmp.Rules.{comparing};
 ghost use Rattle.names.specs.Comparing.{same_name};
 
@@ -18,7 +19,11 @@ impl PartialEq for Name {
 
     ghost laws = { Prim.search (comparing, rules) };
 
-    fn eq(&self, other: &Name) -> bool {
+    fn eq(&self, other: &Name) -> bool
+        ensures is { result ≡ same_name self.now other.now }
+        ensures name { Decides result (self.now ≡ other.now) }
+        ensures bytes { Decides result (self.now.bytes ≡ other.now.bytes) }
+    {
         for (a, b) in self.bytes.iter().zip(&other.bytes) {
             if a != b {
                 return false;

@@ -20,7 +20,7 @@ use Rattle.relay.proofs.Served.{answer_told}
 use Rattle.relay.proofs.Staying.{kept_stays}
 
 -- a relay keeps what the provider below keeps
-over_keeps : (m m' : Meaning) (ps ps' : List (Option Kept)) → Keeps m m' → Keeps (over ps m) (over ps' m')
+pub over_keeps : (m m' : Meaning) (ps ps' : List (Option Kept)) → Keeps m m' → Keeps (over ps m) (over ps' m')
 over_keeps m m' ps ps' k = record { span = k.span; grows = k.grows; same = k.same }
 
 -- what was from the record is from it after a call
@@ -28,7 +28,7 @@ kept_on : (m m' : Meaning) (o : Option Kept) → Sound m → Keeps m m' → Kept
 kept_on m m' None s k h = tt
 kept_on m m' (Some x) s k h = held_on m m' x.name x.edition x.tag x.interval x.rows s k h
 
-all_on : (m m' : Meaning) (ps : List (Option Kept)) → Sound m → Keeps m m' → AllFrom m ps → AllFrom m' ps
+pub all_on : (m m' : Meaning) (ps : List (Option Kept)) → Sound m → Keeps m m' → AllFrom m ps → AllFrom m' ps
 all_on m m' ps s k all j = kept_on m m' (get_or ps j None) s k (all j)
 
 -- a fetch that passes the checks

@@ -34,7 +34,7 @@ set_from m (p ∷ ps) zero x h all (suc j) = all (suc j)
 set_from m (p ∷ ps) (suc i) x h all zero = all 0
 set_from m (p ∷ ps) (suc i) x h all (suc j) = set_from m ps i x h (λ l. all (suc l)) j
 
-with_from : (m : Meaning) (ps : List (Option Kept)) (o : Option ℕ) (x : Option Kept) → KeptFrom m x → AllFrom m ps → AllFrom m (with_page ps o x)
+pub with_from : (m : Meaning) (ps : List (Option Kept)) (o : Option ℕ) (x : Option Kept) → KeptFrom m x → AllFrom m ps → AllFrom m (with_page ps o x)
 with_from m ps None x h all = all
 with_from m ps (Some i) x h all = set_from m ps i x h all
 

@@ -1,5 +1,6 @@
 // Scripts read line by line.
 ghost use Rattle.std.specs.Prelude.{◌≡◌, if◌then◌else◌, is_some, IsOk, None, OnOk, Some, ◌↔◌, IsTrue};
+ghost use Rattle.script.specs.declared.scripts.Fault.TheVariants.{NoMemory as FaultNoMemory};
 ghost use Rattle.script.specs.declared.scripts.Trouble.TheVariants.{NotUnderstood, NoMemory};
 ghost use Rattle.command.specs.Words.{rest as rest_of, word as word_of};
 ghost use Rattle.script.specs.Drafts.{gathered, line_read, listed, moved, posted, setting_up, skipped, unread};
@@ -15,6 +16,14 @@ use std::alloc::{AllocError, Global};
 use zone::intervals::ERA;
 use zone::rows::Row;
 use zone::windows::Table;
+
+impl From<AllocError> for Fault {
+    ghost from_gives = { λ _ fault. fault ≡ FaultNoMemory };
+
+    fn from(_: AllocError) -> Fault {
+        Fault::NoMemory
+    }
+}
 
 impl From<AllocError> for Trouble {
     ghost from_gives = { λ _ trouble. trouble ≡ NoMemory };

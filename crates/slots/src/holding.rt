@@ -25,13 +25,13 @@ impl Slot {
         Ok(())
     }
 
-    // Reserves the slot for the zone's first fetch.
-    fn reserve(&mut self, name: Name, interval: Interval)
-        ensures { cell_of self.new ≡ record { owner = Some name; copy = None; pending = Some interval } }
+    // Reserves the slot for the zone's first fetch, which is over this interval.
+    fn reserve(&mut self, name: Name, over: Interval)
+        ensures { cell_of self.new ≡ record { owner = Some name; copy = None; pending = Some over } }
     {
         self.owner = Some(name);
         self.held = None;
-        self.pending = Some(interval);
+        self.pending = Some(over);
     }
 
     // Frees the slot: 11 where it holds nothing, 8 while a fetch is pending.

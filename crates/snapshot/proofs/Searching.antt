@@ -1,5 +1,5 @@
 -- A search that halves, among the zones of a good snapshot. Assumes nothing.
-use Rattle.std.proofs.Common.{◌≡◌, ℕ, ◌+◌, ◌<◌, ◌≤◌, true, false, ◌⊎◌, List, length, get_or, Some, None, Ok, Err, Result, MatchOption, sym, refl, ap, ◌∙◌, subst, inl, inr, zero-le, arith}
+use Rattle.std.proofs.Common.{◌≡◌, ℕ, ◌+◌, ◌<◌, ◌≤◌, true, false, ◌⊎◌, List, length, get_or, HoldsAt, Some, None, Ok, Err, Result, MatchOption, sym, refl, ap, ◌∙◌, subst, inl, inr, zero-le, arith}
 use Rattle.std.specs.Str.{bytes_eq}
 use Rattle.std.specs.Cmp.Lexicographic.{slice_cmp}
 use Rattle.std.specs.List.Sorted.{IsBinarySearchResult, IsNonDecreasingBy, IsSearchInRange}
@@ -58,10 +58,10 @@ module _ (e : ℕ) (span : Interval) (zs : List Zone) (n : Name) (good : is_good
       apart : (k : ℕ) (d : Zone) → k < length zs → against n (get_or zs k d) ≡ Equal → ⊥
       apart k d l t = elim (split k i) [ inl m ↦ (let u = (b searchable).0 k d zero-le m in cc) | inr m ↦ (let u = (b searchable).1 k d m l in cc) ]
 
-  in_order : (r : Result ℕ ℕ) → IsSearchInRange r (length zs) → IsBinarySearchResult (against n) zs r → MatchOption (result_ok r) (page_of n zs ≡ None) (λ i. (d : Zone) → (page_of n zs ≡ Some (page (get_or zs i d))) × ((get_or zs i d).window.interval ≡ span))
-  in_order (Ok i) l b = λ d. (found i l b d, stands.windows i d l)
+  in_order : (r : Result ℕ ℕ) → IsSearchInRange r (length zs) → IsBinarySearchResult (against n) zs r → MatchOption (result_ok r) (page_of n zs ≡ None) (λ i. (i < length zs) × HoldsAt (λ z. (page_of n zs ≡ Some (page z)) × (z.window.interval ≡ span)) zs i)
+  in_order (Ok i) l b = (l, λ d. (found i l b d, stands.windows i d l))
   in_order (Err i) l b = missing i b
 
   -- what the search in a slice of the zones has told
-  pub told : (xs : List Zone) (r : Result ℕ ℕ) → xs ≡ zs → IsSearchInRange r (length xs) → IsBinarySearchResult (against n) xs r → MatchOption (result_ok r) (page_of n zs ≡ None) (λ i. (d : Zone) → (page_of n zs ≡ Some (page (get_or zs i d))) × ((get_or zs i d).window.interval ≡ span))
+  pub told : (xs : List Zone) (r : Result ℕ ℕ) → xs ≡ zs → IsSearchInRange r (length xs) → IsBinarySearchResult (against n) xs r → MatchOption (result_ok r) (page_of n zs ≡ None) (λ i. (i < length zs) × HoldsAt (λ z. (page_of n zs ≡ Some (page z)) × (z.window.interval ≡ span)) zs i)
   told xs r q l b = in_order r (subst (λ (x : List Zone). IsSearchInRange r (length x)) q l) (subst (λ (x : List Zone). IsBinarySearchResult (against n) x r) q b)

@@ -2,7 +2,7 @@
 ghost use Rattle.snapshot.specs.Snapshots.{Made};
 
 use super::deciding::are_good;
-use super::snapshots::{Contents, Snapshot};
+use super::snapshots::{Contents, Rejected, Snapshot};
 use super::zones::Zone;
 use provider::requests::Edition;
 use zone::rows::Interval;
@@ -13,13 +13,17 @@ impl Snapshot {
         ensures { Made edition span zones.items result }
     {
         let contents = if are_good(edition, span, &zones) {
-            Some(Contents {
+            Ok(Contents {
                 edition,
                 span,
                 zones,
             })
         } else {
-            None
+            Err(Rejected {
+                edition,
+                span,
+                zones,
+            })
         };
         Snapshot { contents }
     }

@@ -1,5 +1,6 @@
 // The snapshot as a provider.
 ghost use Rattle.std.specs.Prelude.{◌≡◌};
+ghost use Rattle.std.specs.Result.{result_ok};
 ghost use Rattle.snapshot.specs.Snapshots.{count_of, pages_of, span_of};
 ghost use Rattle.snapshot.specs.Meant.{sound_meant};
 
@@ -26,18 +27,20 @@ impl Provider for Snapshot {
 
     ghost after_fetch = { λ s q t. t ≡ s };
 
-    ghost sound = { λ s o. sound_meant s.contents };
+    ghost sound = { λ s o. sound_meant (result_ok s.contents) };
 
     fn span(&self) -> Interval {
         match &self.contents {
-            Some(contents) => contents.span,
-            None => ERA,
+            Ok(contents) => contents.span,
+            Err(_) => ERA,
         }
     }
 
     fn fetch(&mut self, request: Request, place: &mut Window) -> Result<Reply, Refusal> {
         check(&request, self.span())?;
-        let contents = self.contents.as_ref().ok_or(Refusal::Silent)?;
+        let Ok(contents) = &self.contents else {
+            return Err(Refusal::Silent);
+        };
         contents.answer(request, place)
     }
 }

@@ -1,5 +1,5 @@
-// The snapshot, and what a good one holds.
-ghost use Rattle.std.specs.Prelude.{◌≡◌, ◌≤◌, true};
+// The snapshot, and what it holds.
+ghost use Rattle.std.specs.Prelude.{◌≡◌, ◌≤◌, true, false};
 ghost use Rattle.provider.specs.Meaning.{last_edition};
 ghost use Rattle.snapshot.specs.Zones.{is_good};
 
@@ -17,8 +17,17 @@ pub(crate) struct Contents {
     ghost good: { is_good edition span zones.items ≡ true },
 }
 
-/// A snapshot: what it holds if it is good. Of anything else it holds nothing, and is silent.
+/// An edition, a span and zones that make no good snapshot, as they were handed in.
+#[derive(Drop)]
+pub(crate) struct Rejected {
+    pub(crate) edition: Edition,
+    pub(crate) span: Interval,
+    pub(crate) zones: Vec<Zone>,
+    ghost bad: { is_good edition span zones.items ≡ false },
+}
+
+/// A snapshot: what it holds if it is good. One of anything else is silent, and keeps that.
 #[derive(Drop)]
 pub struct Snapshot {
-    pub(crate) contents: Option<Contents>,
+    pub(crate) contents: Result<Contents, Rejected>,
 }

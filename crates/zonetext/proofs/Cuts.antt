@@ -5,7 +5,7 @@ use Rattle.std.proofs.lemmas.Bool.{eq-eqb, ne_eqb, cases_eq, cond-true, cond-fal
 use Rattle.zonetext.specs.Lines.{Lines, rest, line, glue, cut, whole, apart, grow, split}
 
 -- f at each byte, from the last to the first
-abbrev each : {K : Type 0} → (ℕ → K → K) → List ℕ → K → K
+abbrev pub each : {K : Type 0} → (ℕ → K → K) → List ℕ → K → K
 each f [] k = k
 each f (c ∷ cs) k = f c (each f cs k)
 
@@ -14,10 +14,10 @@ each_push f [] x k = refl
 each_push f (c ∷ cs) x k = ap (f c) (each_push f cs x k)
 
 -- F of the text is f of each byte so far, over F of what is left
-abbrev Sofar : {K : Type 0} → (List ℕ → K) → (ℕ → K → K) → List ℕ → ℕ → Type 0
+abbrev pub Sofar : {K : Type 0} → (List ℕ → K) → (ℕ → K → K) → List ℕ → ℕ → Type 0
 Sofar F f t i = F t ≡ each f (take i t) (F (drop i t))
 
-sofar_more : {K : Type 0} (F : List ℕ → K) (f : ℕ → K → K) (t : List ℕ) (i : ℕ) → i < length t → F (drop i t) ≡ f (get_or t i 0) (F (drop (i + 1) t)) → Sofar F f t i → Sofar F f t (i + 1)
+pub sofar_more : {K : Type 0} (F : List ℕ → K) (f : ℕ → K → K) (t : List ℕ) (i : ℕ) → i < length t → F (drop i t) ≡ f (get_or t i 0) (F (drop (i + 1) t)) → Sofar F f t i → Sofar F f t (i + 1)
 sofar_more F f t i h e g =
     g ∙ ap (λ k. each f (take i t) k) e ∙ sym (each_push f (take i t) (get_or t i 0) _) ∙ ap (λ l. each f l (F (drop (i + 1) t))) (sym (take_more t i 0 h))
 
@@ -46,13 +46,13 @@ pub cut_here : (cs : List ℕ) → cut (13 ∷ 10 ∷ cs) ≡ line [] (cut cs)
 unfolding cut
 cut_here cs = refl
 
-line_more : (t : List ℕ) (i : ℕ) → i + 1 < length t → (get_or t i 0 ≡ 13 → get_or t (i + 1) 0 ≡ 10 → ⊥) → Sofar cut glue t i → Sofar cut glue t (i + 1)
+pub line_more : (t : List ℕ) (i : ℕ) → i + 1 < length t → (get_or t i 0 ≡ 13 → get_or t (i + 1) 0 ≡ 10 → ⊥) → Sofar cut glue t i → Sofar cut glue t (i + 1)
 line_more t i h n g =
     let e = drop_more t (i + 1) 0 h in
     let same : i + 2 ≡ i + 1 + 1 = omega arith in
     sofar_more cut glue t i (omega arith) (ap cut (two_more t i h) ∙ cut_on _ _ _ n ∙ ap (λ l. glue (get_or t i 0) (cut l)) (ap (λ k. get_or t (i + 1) 0 ∷ drop k t) same ∙ sym e)) g
 
-line_found : (t : List ℕ) (i : ℕ) → i + 1 < length t → get_or t i 0 ≡ 13 → get_or t (i + 1) 0 ≡ 10 → Sofar cut glue t i → cut t ≡ line (take i t) (cut (drop (i + 2) t))
+pub line_found : (t : List ℕ) (i : ℕ) → i + 1 < length t → get_or t i 0 ≡ 13 → get_or t (i + 1) 0 ≡ 10 → Sofar cut glue t i → cut t ≡ line (take i t) (cut (drop (i + 2) t))
 line_found t i h a b g =
     g ∙ ap (λ k. each glue (take i t) k) (ap cut (two_more t i h ∙ (λ j. a j ∷ b j ∷ drop (i + 2) t)) ∙ cut_here _) ∙ glues_line (take i t) [] _ ∙ ap (λ l. line l (cut (drop (i + 2) t))) (append-nil _)
 
@@ -62,7 +62,7 @@ cut_short [] h = refl
 cut_short (x ∷ []) h = refl
 cut_short (x ∷ y ∷ xs) h = absurd (omega arith)
 
-line_none : (t : List ℕ) (i : ℕ) → length t ≤ i + 1 → Sofar cut glue t i → cut t ≡ rest t
+pub line_none : (t : List ℕ) (i : ℕ) → length t ≤ i + 1 → Sofar cut glue t i → cut t ≡ rest t
 line_none t i h g =
     g ∙ ap (λ k. each glue (take i t) k) (cut_short (drop i t) (simp length-drop (omega arith))) ∙ glues_rest (take i t) (drop i t) ∙ ap rest (take-append-drop i t)
 
@@ -101,14 +101,14 @@ split_none : split [] ≡ whole
 unfolding split
 split_none = refl
 
-colon_more : (t : List ℕ) (i : ℕ) → i < length t → (get_or t i 0 ≡ 58 → ⊥) → Sofar split grow t i → Sofar split grow t (i + 1)
+pub colon_more : (t : List ℕ) (i : ℕ) → i < length t → (get_or t i 0 ≡ 58 → ⊥) → Sofar split grow t i → Sofar split grow t (i + 1)
 colon_more t i h n g = sofar_more split grow t i h (ap split (drop_more t i 0 h) ∙ split_on _ _ n) g
 
-colon_found : (t : List ℕ) (i : ℕ) → i < length t → get_or t i 0 ≡ 58 → Sofar split grow t i → split t ≡ apart (take i t) (drop (i + 1) t)
+pub colon_found : (t : List ℕ) (i : ℕ) → i < length t → get_or t i 0 ≡ 58 → Sofar split grow t i → split t ≡ apart (take i t) (drop (i + 1) t)
 colon_found t i h e g =
     g ∙ ap (λ k. each grow (take i t) k) (ap split (drop_more t i 0 h) ∙ split_here _ _ e) ∙ grows_apart (take i t) [] _ ∙ ap (λ l. apart l (drop (i + 1) t)) (append-nil _)
 
-colon_none : (t : List ℕ) (i : ℕ) → length t ≤ i → Sofar split grow t i → split t ≡ whole
+pub colon_none : (t : List ℕ) (i : ℕ) → length t ≤ i → Sofar split grow t i → split t ≡ whole
 colon_none t i h g = g ∙ ap (λ k. each grow (take i t) (split k)) (drop_all i t h) ∙ ap (λ k. each grow (take i t) k) split_none ∙ grows_whole (take i t)
 
 colon_sofar : (t : List ℕ) (n : ℕ) → n ≤ length t → ((k : ℕ) → k < n → get_or t k 0 ≡ 58 → ⊥) → Sofar split grow t n

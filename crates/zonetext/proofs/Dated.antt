@@ -33,7 +33,7 @@ start_short t n = by (start_read t) refl where
   by (Some s) e = absurd (n (ap length (start_only t s e) ∙ stamp_length (stamp_at s.0)))
 
 -- the text without its last byte, and that byte
-until_yes : (t : List ℕ) → length t ≡ 16 → bytes_eq (drop 15 t) (codes "Z") ≡ true → until_read t ≡ option_and_then until_at (start_read (take 15 t))
+pub until_yes : (t : List ℕ) → length t ≡ 16 → bytes_eq (drop 15 t) (codes "Z") ≡ true → until_read t ≡ option_and_then until_at (start_read (take 15 t))
 unfolding until_read
 until_yes t n z = cond-true _ (option_and_then until_at (start_read (take 15 t))) None (and_from (eqb (length t) 16) (bytes_eq (drop 15 t) (codes "Z")) (eq-eqb _ _ n) z)
 

@@ -1,7 +1,7 @@
 // The texts of the values that a window holds.
 ghost use Rattle.std.specs.Prelude.{◌≡◌};
 ghost use Rattle.calendar.specs.Calendar.{InRange};
-ghost use Rattle.fields.specs.Offsets.{InDay, printed, offset as offset_of};
+ghost use Rattle.fields.specs.Offsets.{InDay, PrintedAs, offset as offset_of};
 ghost use Rattle.fields.specs.Stamps.{stamp_text as text_of_stamp};
 ghost use Rattle.zonetext.specs.Stamps.{stamp_at};
 ghost use Rattle.zonetext.specs.Writing.{Writable};
@@ -24,7 +24,7 @@ pub(crate) fn stamp_text(at: Seconds) -> [u8; 15]
 /// The text of an offset below a day.
 pub(crate) fn offset_text(seconds: i32) -> OffsetText
     requires { InDay (offset_of seconds) }
-    ensures { result.items ≡ printed (offset_of seconds) }
+    ensures { PrintedAs (offset_of seconds) result }
 {
     print_offset(Offset(seconds)).unwrap()
 }

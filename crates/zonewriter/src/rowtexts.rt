@@ -26,8 +26,8 @@ impl Writer<'_> {
         let texts = row_texts(row);
         self.line(BEGIN, component);
         self.line(DTSTART, &texts.start);
-        self.line(TZOFFSETFROM, &texts.from);
-        self.line(TZOFFSETTO, &texts.to);
+        self.line(TZOFFSETFROM, texts.from.as_slice());
+        self.line(TZOFFSETTO, texts.to.as_slice());
         self.line(END, component);
     }
 }
@@ -37,5 +37,5 @@ pub(crate) fn row_len(row: Row) -> usize
     requires { Writable row }
     ensures { result ≡ length (row_text row) }
 {
-    ROW_BYTES + offset_text(row.from).len() + offset_text(row.to).len()
+    ROW_BYTES + offset_text(row.from).len + offset_text(row.to).len
 }

@@ -1,11 +1,11 @@
 -- The row's bytes besides its offsets, and theirs.
-use Rattle.std.proofs.Common.{length, ap, ◌∙◌, rules}
+use Rattle.std.proofs.Common.{rules}
 use Rattle.zonewriter.proofs.Rowing.{row_text_length}
 use Rattle.zonewriter.proofs.rowtexts.row_len.Goals as goal
 
 pub returns : goal.returns
 returns c =
-    let a = c.len.ensures.value ∙ ap length c.offset_text.ensures in
-    let b = c.len-2.ensures.value ∙ ap length c.offset_text-2.ensures in
+    let a = c.offset_text.ensures.len in
+    let b = c.offset_text-2.ensures.len in
     let l = row_text_length c.args.row in
     search rules
