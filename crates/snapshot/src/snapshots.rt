@@ -23,6 +23,7 @@ pub(crate) struct Rejected {
     pub(crate) edition: Edition,
     pub(crate) span: Interval,
     pub(crate) zones: Vec<Zone>,
+    ghost few: { edition ≤ last_edition },
     ghost bad: { is_good edition span zones.items ≡ false },
 }
 

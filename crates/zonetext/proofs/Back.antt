@@ -95,11 +95,11 @@ cut_lines n u rs h k f =
     cut_line a _ refl ∙ ap (line a) (cut_line b _ (plain_text n h) ∙ ap (line b) (cut_line c _ (plain_until u k) ∙ ap (line c) (cut_rows rs f)))
 
 -- what the lines say
-pub said_begin : (v : List ℕ) → said (bare (codes "BEGIN") v) ≡ begin v
+said_begin : (v : List ℕ) → said (bare (codes "BEGIN") v) ≡ begin v
 unfolding said split
 said_begin v = refl
 
-pub said_end : (v : List ℕ) → said (bare (codes "END") v) ≡ end v
+said_end : (v : List ℕ) → said (bare (codes "END") v) ≡ end v
 unfolding said split
 said_end v = refl
 
