@@ -2,8 +2,7 @@
 use Rattle.std.proofs.Common.{◌≡◌, Bool, true, false, ◌&&◌, List, [], ◌∷◌, ℤ, int_eq, Decides, refl, ap, ◌∙◌, inl, inr}
 use Rattle.names.proofs.Ordered.{names_ordered}
 use Rattle.std.proofs.lemmas.Bool.{cases_Bool}
-use Rattle.std.proofs.lemmas.Bool.Decides.{same_from_decides, Decides-at, Decides-and, Decides-int_eq, Decides-like}
-use Rattle.std.specs.Cmp.Lexicographic.{pointwise, pointwise_decides}
+use Rattle.std.proofs.lemmas.Bool.Decides.{Decides-at, Decides-and, Decides-int_eq, Decides-like}
 use denote.Enum.Bare.{sameb, same_true, true_same}
 use Rattle.zone.specs.contracts.rows.Observance.{the_type}
 use Rattle.zone.specs.declared.rows.Observance.{Observance}
@@ -53,9 +52,9 @@ rows_agree a b q = (decides_rows a b).1 q
 pub rows_differ : (a b : List Row) → (a ≡ b → ⊥) → same_rows a b ≡ false
 rows_differ a b n = elim (cases_Bool (same_rows a b)) [ inl y ↦ absurd (n ((decides_rows a b).0 y)) | inr f ↦ f ]
 
--- the derived test of two lists of rows
-pub derived_rows : (a b : List Row) (r : Bool) → r ≡ pointwise (λ x y. int_eq x.onset y.onset && (int_eq x.from y.from && (int_eq x.to y.to && sameb the_type x.observance y.observance))) a b → r ≡ same_rows a b
-derived_rows a b r e = e ∙ same_from_decides _ (same_rows a b) (pointwise_decides (λ x y. derived_row x y _ refl) a b) (decides_rows a b)
+-- rows that are the same are tested so
+pub same_row_is : (a b : Row) → a ≡ b → same_row a b ≡ true
+same_row_is a b e = (decides_row a b).1 e
 
 pub comparisons_stand : ComparisonsStand
 comparisons_stand = record { never = names_ordered.never; chain = names_ordered.chain; some = names_ordered.some; rows = decides_rows }
